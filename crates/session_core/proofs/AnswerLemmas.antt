@@ -4,12 +4,9 @@ use Rattle.std.proofs.lemmas.List.{append-nil}
 use Rattle.std.proofs.KnownBytes.{Appends-nil}
 use Rattle.std.specs.Result.{result_ok}
 use Rattle.rtrb.specs.Ring.{received}
-use Rattle.call_types.specs.declared.call.Call.{Call}
-use Rattle.call_types.specs.declared.refusal.Refusal.{Refusal}
 use Rattle.call_types.specs.declared.request.Request.{Request}
 use Rattle.logged_streams.specs.Streams.{LoggedWriterState, fresh_log}
 use Rattle.record_book.specs.Seat.{SeatState}
-use Rattle.system_lock.specs.declared.kernel.Why.{Why}
 use Rattle.session_core.specs.declared.answer.AnsweredSeat.TheVariants as seat
 use Rattle.session_core.specs.declared.end.End.TheVariants as end
 use Rattle.session_core.specs.declared.stage.Stage.TheVariants as stage
@@ -27,41 +24,42 @@ use Rattle.session_core.specs.Stages.{LeftSession, Standing}
 use Rattle.session_core.proofs.ClosingLemmas.{all_written, first_none}
 use Rattle.session_core.proofs.RefusalLemmas.{empty_said, kept_said, with_last_said}
 use Rattle.session_core.proofs.ServeLemmas.{over_here}
+use Rattle.system_lock.specs.Kernel.{Says}
 
 same_seat : (r : Result SeatState (Unit {0})) → result_ok r ≡ spent_of (seat_of r)
 same_seat (Ok spent) = refl
 same_seat (Err admission) = refl
 
 -- a session that is left has ended at one of the requests that were taken
-left_comes : (unopened : Request → Refusal → Type 0) (refused : SeatState → Call → Refusal → Type 0) (ended : SeatState → Why → Type 0) (base : Option (List ℕ)) (taken : List Request) (o : OutputState) (ring : TakingEnd) (left : LeftSession)
-    → HasLeft unopened refused ended base taken o left → ComesToEnd base taken (answered_of o ring (standing.Left left)) left.end
-left_comes unopened refused ended base taken o ring left h =
+left_comes : (says : Says) (base : Option (List ℕ)) (taken : List Request) (o : OutputState) (ring : TakingEnd) (left : LeftSession)
+    → HasLeft says base taken o left → ComesToEnd base taken (answered_of o ring (standing.Left left)) left.end
+left_comes says base taken o ring left h =
     subst (λ (s : Option SeatState). ComesBy (AreTaken taken) (EndsAt (AreTaken taken)) base o.sink s (with_last o.answers left.last) left.end) (same_seat left.seat)
     (h.left_by.leaves.here base taken (over_here base (AreTaken taken) taken [] h.old h.found (append-nil taken) h.ends))
 
 -- what was answered of a session that stands there
-pub answers_ring : (unopened : Request → Refusal → Type 0) (refused : SeatState → Call → Refusal → Type 0) (ended : SeatState → Why → Type 0) (always : Bool) (base : Option (List ℕ)) (o : OutputState) (ring : TakingEnd) (at : Standing)
-    → Stands unopened refused ended base (received ring) o at → IsAtRest o at → (always ≡ true → o.sink.log.refusals ≡ 0) → AnswersRing unopened refused ended always base (answered_of o ring at)
-answers_ring unopened refused ended always base o ring (standing.Ready (stage.Opening admission)) h rest let_through = record { answered = (h.talking, all_written base o h.holds rest); said = h.said; let_through = let_through }
-answers_ring unopened refused ended always base o ring (standing.Ready (stage.Ready live)) h rest let_through = record { answered = (h.talking, all_written base o h.holds rest); said = h.said; let_through = let_through }
-answers_ring unopened refused ended always base o ring (standing.Waits live) h rest let_through = absurd rest
-answers_ring unopened refused ended always base o ring (standing.Lost spent) h rest let_through = record { answered = ((h.0.is.exited, h.0.is.cut, h.1), all_written base o h.0.is.holds h.0.is.sent); said = h.0.said; let_through = let_through }
-answers_ring unopened refused ended always base o ring (standing.Left left) h rest let_through = record {
+pub answers_ring : (says : Says) (always : Bool) (base : Option (List ℕ)) (o : OutputState) (ring : TakingEnd) (at : Standing)
+    → Stands says base (received ring) o at → IsAtRest o at → (always ≡ true → o.sink.log.refusals ≡ 0) → AnswersRing says always base (answered_of o ring at)
+answers_ring says always base o ring (standing.Ready (stage.Opening admission)) h rest let_through = record { answered = (h.talking, all_written base o h.holds rest); said = h.said; let_through = let_through }
+answers_ring says always base o ring (standing.Ready (stage.Ready live)) h rest let_through = record { answered = (h.talking, all_written base o h.holds rest); said = h.said; let_through = let_through }
+answers_ring says always base o ring (standing.Waits live) h rest let_through = absurd rest
+answers_ring says always base o ring (standing.Lost spent) h rest let_through = record { answered = ((h.0.is.exited, h.0.is.cut, h.1), all_written base o h.0.is.holds h.0.is.sent); said = h.0.said; let_through = let_through }
+answers_ring says always base o ring (standing.Left left) h rest let_through = record {
   answered = (
-    left_comes unopened refused ended base (received ring) o ring left h,
-    subst (λ (s : Option SeatState). EndSaid unopened ended s left.end) (same_seat left.seat) h.left_by.end_said,
+    left_comes says base (received ring) o ring left h,
+    subst (λ (s : Option SeatState). EndSaid says s left.end) (same_seat left.seat) h.left_by.end_said,
   );
   said =
-      with_last_said (RefusalSaid unopened refused ended (received ring)) o.answers left.last
-      (kept_said (RefusalSaid unopened refused ended (received ring)) h.old.answers o.answers h.left_by.answers h.left_by.said);
+      with_last_said (RefusalSaid says (received ring)) o.answers left.last
+      (kept_said (RefusalSaid says (received ring)) h.old.answers o.answers h.left_by.answers h.left_by.said);
   let_through = let_through;
 }
 
 -- memory ran out before
-pub answers_nothing : (unopened : Request → Refusal → Type 0) (refused : SeatState → Call → Refusal → Type 0) (ended : SeatState → Why → Type 0) (always : Bool) (base : Option (List ℕ)) (ring : TakingEnd) (admission : Unit {0}) (writer : LoggedWriterState)
-    → writer ≡ record { contents = base; log = fresh_log } → AnswersRing unopened refused ended always base (record { seat_is = seat.None admission; answers = []; end_is = Some end.NoMemory; ring = ring; writer = writer })
-answers_nothing unopened refused ended always base ring admission writer e =
-    subst (λ (w : LoggedWriterState). AnswersRing unopened refused ended always base (record { seat_is = seat.None admission; answers = []; end_is = Some end.NoMemory; ring = ring; writer = w })) (sym e) (record {
+pub answers_nothing : (says : Says) (always : Bool) (base : Option (List ℕ)) (ring : TakingEnd) (admission : Unit {0}) (writer : LoggedWriterState)
+    → writer ≡ record { contents = base; log = fresh_log } → AnswersRing says always base (record { seat_is = seat.None admission; answers = []; end_is = Some end.NoMemory; ring = ring; writer = writer })
+answers_nothing says always base ring admission writer e =
+    subst (λ (w : LoggedWriterState). AnswersRing says always base (record { seat_is = seat.None admission; answers = []; end_is = Some end.NoMemory; ring = ring; writer = w })) (sym e) (record {
       answered = (
         record {
           talks = first_none (AreTaken (received ring)) (received ring) [] refl refl;
@@ -71,7 +69,7 @@ answers_nothing unopened refused ended always base ring admission writer e =
         },
         tt,
       );
-      said = empty_said (RefusalSaid unopened refused ended (received ring)) [] refl;
+      said = empty_said (RefusalSaid says (received ring)) [] refl;
       let_through = λ given. refl;
     })
 

@@ -8,7 +8,6 @@ use Rattle.call_types.specs.declared.act.Act.TheVariants as act
 use Rattle.call_types.specs.declared.call.Call.{Call}
 use Rattle.call_types.specs.declared.outcome.Outcome.{Outcome}
 use Rattle.call_types.specs.declared.outcome.Outcome.TheVariants as outcome
-use Rattle.call_types.specs.declared.refusal.Refusal.{Refusal}
 use Rattle.call_types.specs.declared.request.Request.{Request}
 use Rattle.call_types.specs.declared.request.Request.TheVariants as request
 use Rattle.record_book.specs.Seat.{Receipted, SeatState}
@@ -31,6 +30,7 @@ use Rattle.session_core.specs.Proved.Ends.{IsOver, LeavesOff}
 use Rattle.session_core.specs.Proved.Closing.{ClosesAs, ClosesBy, HangsUp, IsOfReads, KeepsSeat, LeavesWith, MayClose, SendsLast, end_of, with_last}
 use Rattle.session_core.specs.Said.{CutSaid, IsEndOfReads, SeatSaid}
 use Rattle.session_core.specs.Proved.Saying.{CauseEndedSaid, OverSaid}
+use Rattle.system_lock.specs.Kernel.{Says}
 
 -- ---- answers that end in a call that waits
 
@@ -220,22 +220,22 @@ ended_unread ended seat why.RunFull of said = of
 ended_unread ended seat why.NoMemory of said = of
 ended_unread ended seat why.Ahead of said = said
 
-given_up : (unopened : Request → Refusal → Type 0) (ended : SeatState → Why → Type 0) (base : Option (List ℕ)) (input : List ℕ) (source : LoggedReaderState) (o : OutputState) (found : Over) (left : LeftSession) (requests : List Request)
-    → MayClose found → IsOver base input source o found → OverSaid unopened ended found → KeepsSeat found left → IsCut requests o.answers None → SeatSaid ended (result_ok left.seat) ended_why.Lost
-given_up unopened ended base input source o (over.Leaves at cause) left requests may (inl (inl h)) said keeps cut = absurd (leaves_uncut base h.handled h.next o at cause requests may h.is cut)
-given_up unopened ended base input source o (over.Leaves at cause) left requests may (inl (inr h)) said keeps cut = absurd h
-given_up unopened ended base input source o (over.Leaves at cause) left requests may (inr off) said keeps cut = absurd (off_uncut base input o at cause requests may off.0 cut)
-given_up unopened ended base input source o (over.Unwritten at) left requests may is said keeps cut = absurd may
-given_up unopened ended base input source o (over.OpeningUntold seat) left requests may is said keeps cut = absurd may
-given_up unopened ended base input source o (over.RefusalUntold seat) left requests may is said keeps cut = absurd may
-given_up unopened ended base input source o (over.Untold seat receipt) left requests may is said keeps cut = absurd may
-given_up unopened ended base input source o (over.Refused seat) left requests may (inl (inr h)) said keeps cut = absurd h
-given_up unopened ended base input source o (over.Refused seat) left requests may (inl (inl h)) said keeps cut = absurd (not_cut (h.handled ++ h.next ∷ []) requests o.answers h.is.2 cut)
-given_up unopened ended base input source o (over.Refused seat) left requests may (inr off) said keeps cut = absurd off.0
-given_up unopened ended base input source o (over.Lost seat cause) left requests may is said keeps cut =
-    subst (λ (s : Option SeatState). SeatSaid ended s ended_why.Lost) (sym (ap result_ok keeps)) said.0
-given_up unopened ended base input source o (over.Ended seat cause) left requests may is said keeps cut = absurd (ended_unread ended seat cause may said)
-given_up unopened ended base input source o (over.Foreign seat) left requests may is said keeps cut = absurd may
+given_up : (says : Says) (base : Option (List ℕ)) (input : List ℕ) (source : LoggedReaderState) (o : OutputState) (found : Over) (left : LeftSession) (requests : List Request)
+    → MayClose found → IsOver base input source o found → OverSaid says found → KeepsSeat found left → IsCut requests o.answers None → SeatSaid says.ended (result_ok left.seat) ended_why.Lost
+given_up says base input source o (over.Leaves at cause) left requests may (inl (inl h)) said keeps cut = absurd (leaves_uncut base h.handled h.next o at cause requests may h.is cut)
+given_up says base input source o (over.Leaves at cause) left requests may (inl (inr h)) said keeps cut = absurd h
+given_up says base input source o (over.Leaves at cause) left requests may (inr off) said keeps cut = absurd (off_uncut base input o at cause requests may off.0 cut)
+given_up says base input source o (over.Unwritten at) left requests may is said keeps cut = absurd may
+given_up says base input source o (over.OpeningUntold seat) left requests may is said keeps cut = absurd may
+given_up says base input source o (over.RefusalUntold seat) left requests may is said keeps cut = absurd may
+given_up says base input source o (over.Untold seat receipt) left requests may is said keeps cut = absurd may
+given_up says base input source o (over.Refused seat) left requests may (inl (inr h)) said keeps cut = absurd h
+given_up says base input source o (over.Refused seat) left requests may (inl (inl h)) said keeps cut = absurd (not_cut (h.handled ++ h.next ∷ []) requests o.answers h.is.2 cut)
+given_up says base input source o (over.Refused seat) left requests may (inr off) said keeps cut = absurd off.0
+given_up says base input source o (over.Lost seat cause) left requests may is said keeps cut =
+    subst (λ (s : Option SeatState). SeatSaid says.ended s ended_why.Lost) (sym (ap result_ok keeps)) said.0
+given_up says base input source o (over.Ended seat cause) left requests may is said keeps cut = absurd (ended_unread says.ended seat cause may said)
+given_up says base input source o (over.Foreign seat) left requests may is said keeps cut = absurd may
 
 closed_at : (found : Over) (o : OutputState) (answers : List Told) (given : End) → IsEndOfReads given → ClosesAs found o answers given → MayClose found × (answers ≡ o.answers)
 closed_at found o answers end.Closed of h = h
@@ -248,8 +248,8 @@ closed_at found o answers end.NoMemory of h = absurd of
 closed_at found o answers end.Foreign of h = absurd of
 closed_at found o answers end.NoThread of h = absurd of
 
-pub cut_said : (unopened : Request → Refusal → Type 0) (ended : SeatState → Why → Type 0) (base : Option (List ℕ)) (input : List ℕ) (source : LoggedReaderState) (old new : OutputState) (found : Over) (left : LeftSession) (answers : List Told)
-    → IsOver base input source old found → OverSaid unopened ended found → KeepsSeat found left → ClosesBy found old new left → answers ≡ with_last new.answers left.last → CutSaid ended (result_ok left.seat) answers left.end
-cut_said unopened ended base input source old new found left answers is said keeps closes told of requests cut =
+pub cut_said : (says : Says) (base : Option (List ℕ)) (input : List ℕ) (source : LoggedReaderState) (old new : OutputState) (found : Over) (left : LeftSession) (answers : List Told)
+    → IsOver base input source old found → OverSaid says found → KeepsSeat found left → ClosesBy found old new left → answers ≡ with_last new.answers left.last → CutSaid says.ended (result_ok left.seat) answers left.end
+cut_said says base input source old new found left answers is said keeps closes told of requests cut =
     let at = closed_at found old (with_last new.answers left.last) left.end of closes in
-    given_up unopened ended base input source old found left requests at.0 is said keeps (subst (λ (l : List Told). IsCut requests l None) (told ∙ at.1) cut)
+    given_up says base input source old found left requests at.0 is said keeps (subst (λ (l : List Told). IsCut requests l None) (told ∙ at.1) cut)

@@ -2,16 +2,17 @@
 use Rattle.std.proofs.Common.{◌≡◌, ℕ, suc, ◌-◌, arith, inl, inr, List, [], ◌∷◌, ◌++◌, Option, None, Some, length, refl, sym, ◌∙◌, ap, subst}
 use Rattle.std.proofs.lemmas.List.{append-nil, append_assoc}
 use Rattle.rtrb.specs.Ring.{IsPair, SameConsumer, SameProducer}
+use Rattle.call_types.specs.declared.act.Record.{Record}
 use Rattle.call_types.specs.declared.call.Call.{Call}
 use Rattle.call_types.specs.declared.refusal.Refusal.{Refusal}
 use Rattle.call_types.specs.declared.request.Request.{Request}
 use Rattle.call_types.specs.declared.request.Request.TheVariants as request
 use Rattle.request_pump.specs.Pump.{PushingEnd}
 use Rattle.record_book.specs.Seat.{SeatState}
-use Rattle.system_lock.specs.declared.kernel.Why.{Why}
+use Rattle.run_history.specs.Fronts.{Since}
 use Rattle.system_lock.specs.declared.kernel.Why.TheVariants as ended_why
 use Rattle.session_core.specs.declared.told.Told.{Told}
-use Rattle.session_core.specs.Stages.{Stage, Over, Turn, LeftSession}
+use Rattle.session_core.specs.Stages.{Stage, Standing, Over, Turn, LeftSession}
 use Rattle.session_core.specs.declared.stage.LeaveCause.{LeaveCause}
 use Rattle.session_core.specs.declared.stage.LeaveCause.TheVariants as why
 use Rattle.session_core.specs.declared.stage.Over.TheVariants as over
@@ -24,11 +25,12 @@ use Rattle.session_core.specs.Talk.{Converses}
 use Rattle.session_core.specs.Refusals.{AreSaid, RefusalSaid}
 use Rattle.session_core.specs.Said.{SaidEnded}
 use Rattle.session_core.specs.Proved.Saying.{IsReadingEnd, OverSaid}
-use Rattle.session_core.specs.Proved.Desk.{HasLeft, IsEnding, IsLostIn, IsNamedPair, IsOverAfter, IsReady, IsRingOf, IsWaitingIn, LeftBy, SendsOn, TurnStands}
+use Rattle.session_core.specs.Proved.Desk.{HasLeft, IsEnding, IsLostIn, IsNamedPair, IsOverAfter, IsReady, IsRingOf, IsWaitingIn, LeftBy, SendsOn, StandsThere, TurnStands}
 use Rattle.session_core.specs.Answering.{TakingEnd}
 use Rattle.session_core.proofs.CallLemmas.{converses, has_receipts}
 use Rattle.session_core.proofs.OutputLemmas.{holds_fresh}
 use Rattle.session_core.proofs.RefusalLemmas.{empty_said, kept_said, wider}
+use Rattle.system_lock.specs.Kernel.{Says}
 
 -- ---- the ring
 
@@ -90,30 +92,30 @@ waited Said base taken seat old new found w waits says =
     waited_by Said base taken w.handled w.call new found w.taken_are (subst (λ (l : List Request). AreSaid (Said l) new.answers) (sym w.taken_are) said) (waits base w.handled w.call w.waits)
 
 -- all answers are written
-pub sent_all : (unopened : Request → Refusal → Type 0) (refused : SeatState → Call → Refusal → Type 0) (ended : SeatState → Why → Type 0) (old new : OutputState) (at : Stage) → SendsAll old new → SendsOn unopened refused ended old at new (turn.GoesOn at)
-sent_all unopened refused ended old new at sends base taken ready = record {
+pub sent_all : (says : Says) (old new : OutputState) (at : Stage) → SendsAll old new → SendsOn says old at new (turn.GoesOn at)
+sent_all says old new at sends base taken ready = record {
   holds = sends.flushes.holds base ready.holds;
   talking = subst (λ (l : List Told). IsTalking taken l at) (sym sends.flushes.answers) ready.talking;
-  said = kept_said (RefusalSaid unopened refused ended taken) old.answers new.answers sends.flushes.answers ready.said;
+  said = kept_said (RefusalSaid says taken) old.answers new.answers sends.flushes.answers ready.said;
 }
 
-pub not_sent : (unopened : Request → Refusal → Type 0) (refused : SeatState → Call → Refusal → Type 0) (ended : SeatState → Why → Type 0) (old new : OutputState) (at : Stage) → FailsToSend old new → SendsOn unopened refused ended old at new (turn.Over (over.Unwritten at))
-not_sent unopened refused ended old new at fails base taken ready = record {
+pub not_sent : (says : Says) (old new : OutputState) (at : Stage) → FailsToSend old new → SendsOn says old at new (turn.Over (over.Unwritten at))
+not_sent says old new at fails base taken ready = record {
   is =
       inr (
         fails.breaks base ready.holds,
         subst (HasReceipts at) (sym fails.answers) (has_receipts taken old.answers at ready.talking),
         subst (Converses taken) (sym fails.answers) (converses taken old.answers at ready.talking),
       );
-  said = kept_said (RefusalSaid unopened refused ended taken) old.answers new.answers fails.answers ready.said;
+  said = kept_said (RefusalSaid says taken) old.answers new.answers fails.answers ready.said;
 }
 
 -- ---- where a session stands
 
-pub has_left : (unopened : Request → Refusal → Type 0) (refused : SeatState → Call → Refusal → Type 0) (ended : SeatState → Why → Type 0) (base : Option (List ℕ)) (taken : List Request) (old new : OutputState) (found : Over) (left : LeftSession)
-    → IsOverAfter (RefusalSaid unopened refused ended) base taken old found → OverSaid unopened ended found
-    → ((requests : List Request) → AreSaid (RefusalSaid unopened refused ended requests) old.answers → OverSaid unopened ended found → LeftBy unopened refused ended requests old found new left) → HasLeft unopened refused ended base taken new left
-has_left unopened refused ended base taken old new found left is said leaves = record { old = old; found = found; ends = is.is; left_by = leaves taken is.said said }
+pub has_left : (says : Says) (base : Option (List ℕ)) (taken : List Request) (old new : OutputState) (found : Over) (left : LeftSession)
+    → IsOverAfter (RefusalSaid says) base taken old found → OverSaid says found
+    → ((requests : List Request) → AreSaid (RefusalSaid says requests) old.answers → OverSaid says found → LeftBy says requests old found new left) → HasLeft says base taken new left
+has_left says base taken old new found left is said leaves = record { old = old; found = found; ends = is.is; left_by = leaves taken is.said said }
 
 -- a session at which nothing was taken up
 pub fresh_stands : (Said : List Request → List Told → Refusal → Type 0) (base : Option (List ℕ)) (taken : List Request) (o : OutputState) (admission : Unit {0}) → taken ≡ [] → o ≡ fresh_output base → IsReady Said base taken o (stage.Opening admission)
@@ -136,22 +138,22 @@ none_left [] e = refl
 none_left (one ∷ more) e = absurd cc
 
 -- no kernel said so
-pub reading_said : (unopened : Request → Refusal → Type 0) (ended : SeatState → Why → Type 0) (at : Stage) (cause : LeaveCause) → IsReadingEnd cause → OverSaid unopened ended (over.Leaves at cause)
-reading_said unopened ended at why.Closed h = tt
-reading_said unopened ended at why.ReadFault h = tt
-reading_said unopened ended at why.Malformed h = tt
-reading_said unopened ended at why.RunFull h = absurd h
-reading_said unopened ended at why.NoMemory h = tt
-reading_said unopened ended at why.Ahead h = tt
+pub reading_said : (says : Says) (at : Stage) (cause : LeaveCause) → IsReadingEnd cause → OverSaid says (over.Leaves at cause)
+reading_said says at why.Closed h = tt
+reading_said says at why.ReadFault h = tt
+reading_said says at why.Malformed h = tt
+reading_said says at why.RunFull h = absurd h
+reading_said says at why.NoMemory h = tt
+reading_said says at why.Ahead h = tt
 
 -- all are answered
-pub ends_after_all : (unopened : Request → Refusal → Type 0) (refused : SeatState → Call → Refusal → Type 0) (ended : SeatState → Why → Type 0) (base : Option (List ℕ)) (taken rest sent : List Request) (cause : LeaveCause) (at : Stage) (old new : OutputState) (left : LeftSession)
-    → taken ++ rest ≡ sent → length rest ≡ 0 → IsReady (RefusalSaid unopened refused ended) base taken old at
-    → ((requests : List Request) → AreSaid (RefusalSaid unopened refused ended requests) old.answers → OverSaid unopened ended (over.Leaves at cause) → LeftBy unopened refused ended requests old (over.Leaves at cause) new left)
-    → OverSaid unopened ended (over.Leaves at cause) → IsEnding unopened refused ended base sent cause new left
-ends_after_all unopened refused ended base taken rest sent cause at old new left e none ready leaves over_said =
+pub ends_after_all : (says : Says) (base : Option (List ℕ)) (taken rest sent : List Request) (cause : LeaveCause) (at : Stage) (old new : OutputState) (left : LeftSession)
+    → taken ++ rest ≡ sent → length rest ≡ 0 → IsReady (RefusalSaid says) base taken old at
+    → ((requests : List Request) → AreSaid (RefusalSaid says requests) old.answers → OverSaid says (over.Leaves at cause) → LeftBy says requests old (over.Leaves at cause) new left)
+    → OverSaid says (over.Leaves at cause) → IsEnding says base sent cause new left
+ends_after_all says base taken rest sent cause at old new left e none ready leaves over_said =
     let all : taken ≡ sent = sym (append-nil taken) ∙ ap (λ (l : List Request). taken ++ l) (sym (none_left rest none)) ∙ e in
-    let said = subst (λ (l : List Request). AreSaid (RefusalSaid unopened refused ended l) old.answers) all ready.said in
+    let said = subst (λ (l : List Request). AreSaid (RefusalSaid says l) old.answers) all ready.said in
     record {
       old = old;
       found = over.Leaves at cause;
@@ -160,22 +162,22 @@ ends_after_all unopened refused ended base taken rest sent cause at old new left
     }
 
 -- the last that was taken is given up
-pub ends_given_up : (unopened : Request → Refusal → Type 0) (refused : SeatState → Call → Refusal → Type 0) (ended : SeatState → Why → Type 0) (base : Option (List ℕ)) (taken rest sent : List Request) (cause : LeaveCause) (seat : SeatState) (old new : OutputState) (left : LeftSession)
-    → taken ++ rest ≡ sent → IsReadingEnd cause → IsLostIn (RefusalSaid unopened refused ended) base taken old seat × SaidEnded ended seat ended_why.Lost
-    → ((requests : List Request) → AreSaid (RefusalSaid unopened refused ended requests) old.answers → OverSaid unopened ended (over.Lost seat cause) → LeftBy unopened refused ended requests old (over.Lost seat cause) new left)
-    → IsEnding unopened refused ended base sent cause new left
-ends_given_up unopened refused ended base taken rest sent cause seat old new left e reading lost leaves = record {
+pub ends_given_up : (says : Says) (base : Option (List ℕ)) (taken rest sent : List Request) (cause : LeaveCause) (seat : SeatState) (old new : OutputState) (left : LeftSession)
+    → taken ++ rest ≡ sent → IsReadingEnd cause → IsLostIn (RefusalSaid says) base taken old seat × SaidEnded says.ended seat ended_why.Lost
+    → ((requests : List Request) → AreSaid (RefusalSaid says requests) old.answers → OverSaid says (over.Lost seat cause) → LeftBy says requests old (over.Lost seat cause) new left)
+    → IsEnding says base sent cause new left
+ends_given_up says base taken rest sent cause seat old new left e reading lost leaves = record {
   old = old;
   found = over.Lost seat cause;
   ends = inr (inr (record { taken = taken; later = rest; seat = seat; sent_are = sym e; found_is = refl; is = lost.0.is }));
   left_by =
-      leaves sent (subst (λ (l : List Request). AreSaid (RefusalSaid unopened refused ended l) old.answers) e (wider unopened refused ended taken rest old.answers lost.0.said)) (lost.1, reading);
+      leaves sent (subst (λ (l : List Request). AreSaid (RefusalSaid says l) old.answers) e (wider says taken rest old.answers lost.0.said)) (lost.1, reading);
 }
 
 -- it was left before
-pub ends_early : (unopened : Request → Refusal → Type 0) (refused : SeatState → Call → Refusal → Type 0) (ended : SeatState → Why → Type 0) (base : Option (List ℕ)) (taken rest sent : List Request) (cause : LeaveCause) (o : OutputState) (left : LeftSession)
-    → taken ++ rest ≡ sent → HasLeft unopened refused ended base taken o left → IsEnding unopened refused ended base sent cause o left
-ends_early unopened refused ended base taken rest sent cause o left e h =
+pub ends_early : (says : Says) (base : Option (List ℕ)) (taken rest sent : List Request) (cause : LeaveCause) (o : OutputState) (left : LeftSession)
+    → taken ++ rest ≡ sent → HasLeft says base taken o left → IsEnding says base sent cause o left
+ends_early says base taken rest sent cause o left e h =
     let by = h.left_by in
     record {
       old = h.old;
@@ -189,6 +191,12 @@ ends_early unopened refused ended base taken rest sent cause o left e h =
         end_said = by.end_said;
         answers = by.answers;
         said =
-            subst (λ (l : List Request). AreSaid (RefusalSaid unopened refused ended l) h.old.answers) e (wider unopened refused ended taken rest h.old.answers by.said);
+            subst (λ (l : List Request). AreSaid (RefusalSaid says l) h.old.answers) e (wider says taken rest h.old.answers by.said);
       };
     }
+
+-- a desk has where its session stands, whatever the history comes to
+pub there : (says : List Record → Says) (front : List Record) (base : Option (List ℕ)) (taken : List Request) (o : OutputState) (place : Option Standing)
+    → Since front (λ h. StandsThere (says h) base taken o place) → place ≡ None → ⊥
+there says front base taken o None stands is = stands front ([], append-nil front)
+there says front base taken o (Some standing) stands is = absurd cc

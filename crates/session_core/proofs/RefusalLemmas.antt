@@ -7,7 +7,7 @@ use Rattle.call_types.specs.declared.refusal.Refusal.TheVariants as refusal
 use Rattle.call_types.specs.declared.request.Request.{Request}
 use Rattle.call_types.specs.declared.request.Request.TheVariants as request
 use Rattle.record_book.specs.Seat.{Receipted, SeatState}
-use Rattle.system_lock.specs.Kernel.{AsksForASeat}
+use Rattle.system_lock.specs.Kernel.{AsksForASeat, Says}
 use Rattle.system_lock.specs.declared.kernel.Why.{Why}
 use Rattle.system_lock.specs.declared.kernel.Why.TheVariants as ended_why
 use Rattle.session_core.specs.declared.told.Told.{Told}
@@ -76,9 +76,9 @@ put_said Said old new one put are said = kept_said Said (old.answers ++ one ∷ 
 -- ---- more requests
 
 -- of these requests and more
-pub wider : (unopened : Request → Refusal → Type 0) (refused : SeatState → Call → Refusal → Type 0) (ended : SeatState → Why → Type 0) (requests more : List Request) (answers : List Told)
-    → AreSaid (RefusalSaid unopened refused ended requests) answers → AreSaid (RefusalSaid unopened refused ended (requests ++ more)) answers
-wider unopened refused ended requests more answers are before so later e =
+pub wider : (says : Says) (requests more : List Request) (answers : List Told)
+    → AreSaid (RefusalSaid says requests) answers → AreSaid (RefusalSaid says (requests ++ more)) answers
+wider says requests more answers are before so later e =
     let h = are before so later e in
     record {
       earlier = h.earlier;
@@ -88,9 +88,9 @@ wider unopened refused ended requests more answers are before so later e =
       is = h.is;
     }
 
-last_said : (unopened : Request → Refusal → Type 0) (refused : SeatState → Call → Refusal → Type 0) (ended : SeatState → Why → Type 0) (earlier : List Request) (next : Request) (before : List Told)
-    (so : Refusal) → NextRefused unopened refused ended earlier before next so → RefusalSaid unopened refused ended (earlier ++ next ∷ []) before so
-last_said unopened refused ended earlier next before so is = record { earlier = earlier; next = next; later = []; requests_are = refl; is = is }
+last_said : (says : Says) (earlier : List Request) (next : Request) (before : List Told)
+    (so : Refusal) → NextRefused says earlier before next so → RefusalSaid says (earlier ++ next ∷ []) before so
+last_said says earlier next before so is = record { earlier = earlier; next = next; later = []; requests_are = refl; is = is }
 
 -- ---- openings
 
@@ -102,44 +102,44 @@ given_up_put : (Said : List Told → Refusal → Type 0) (old new : OutputState)
 given_up_put Said old new so found (inl put) are said = put_said Said old new (told.Refused so) put.1 are said
 given_up_put Said old new so found (inr none) are said = same_said Said old new none.1 are
 
-is_refused : (unopened : Request → Refusal → Type 0) (refused : SeatState → Call → Refusal → Type 0) (ended : SeatState → Why → Type 0) (earlier : List Request) (before : List Told) (next : Request)
-    (so : Refusal) → AsksForASeat next → OpeningRefused unopened earlier before next so → NextRefused unopened refused ended earlier before next so
-is_refused unopened refused ended earlier before request.Join so opens h = h
-is_refused unopened refused ended earlier before (request.Attach process) so opens h = h
-is_refused unopened refused ended earlier before (request.Call call) so opens h = absurd opens
+is_refused : (says : Says) (earlier : List Request) (before : List Told) (next : Request)
+    (so : Refusal) → AsksForASeat next → OpeningRefused says.not_opened earlier before next so → NextRefused says earlier before next so
+is_refused says earlier before request.Join so opens h = h
+is_refused says earlier before (request.Attach process) so opens h = h
+is_refused says earlier before (request.Call call) so opens h = absurd opens
 
-pub opening_refused : (unopened : Request → Refusal → Type 0) (refused : SeatState → Call → Refusal → Type 0) (ended : SeatState → Why → Type 0) (handled : List Request) (next : Request)
-    (so : Refusal) (old new : OutputState) (found : LeaveCause) → AsksForASeat next → unopened next so → PutsGivenUp old new so found → handled ≡ [] → old.answers ≡ []
-    → AreSaid (RefusalSaid unopened refused ended (handled ++ next ∷ [])) new.answers
-opening_refused unopened refused ended handled next so old new found opens said put none empty =
-    given_up_put (RefusalSaid unopened refused ended (handled ++ next ∷ [])) old new so found put (empty_said (RefusalSaid unopened refused ended (handled ++ next ∷ [])) old.answers empty)
-    (last_said unopened refused ended handled next old.answers so (is_refused unopened refused ended handled old.answers next so opens (record { first = none; unanswered = empty; said = said })))
+pub opening_refused : (says : Says) (handled : List Request) (next : Request)
+    (so : Refusal) (old new : OutputState) (found : LeaveCause) → AsksForASeat next → says.not_opened next so → PutsGivenUp old new so found → handled ≡ [] → old.answers ≡ []
+    → AreSaid (RefusalSaid says (handled ++ next ∷ [])) new.answers
+opening_refused says handled next so old new found opens said put none empty =
+    given_up_put (RefusalSaid says (handled ++ next ∷ [])) old new so found put (empty_said (RefusalSaid says (handled ++ next ∷ [])) old.answers empty)
+    (last_said says handled next old.answers so (is_refused says handled old.answers next so opens (record { first = none; unanswered = empty; said = said })))
 
 -- ---- calls
 
-pub call_refused : (unopened : Request → Refusal → Type 0) (refused : SeatState → Call → Refusal → Type 0) (ended : SeatState → Why → Type 0) (handled : List Request) (seat : SeatState) (call : Call)
-    (so : Refusal) (old new : OutputState) → IsTalking handled old.answers (stage.Ready seat) → refused seat call so → Puts old new (told.Refused so)
-    → AreSaid (RefusalSaid unopened refused ended handled) old.answers → AreSaid (RefusalSaid unopened refused ended (handled ++ request.Call call ∷ [])) new.answers
-call_refused unopened refused ended handled seat call so old new talking said put are =
-    put_said (RefusalSaid unopened refused ended (handled ++ request.Call call ∷ [])) old new (told.Refused so) put (wider unopened refused ended handled (request.Call call ∷ []) old.answers are)
-    (last_said unopened refused ended handled (request.Call call) old.answers so (inl (record { seat = seat; talked = talking.0; receipts = talking.1; said = said })))
+pub call_refused : (says : Says) (handled : List Request) (seat : SeatState) (call : Call)
+    (so : Refusal) (old new : OutputState) → IsTalking handled old.answers (stage.Ready seat) → says.refused seat call so → Puts old new (told.Refused so)
+    → AreSaid (RefusalSaid says handled) old.answers → AreSaid (RefusalSaid says (handled ++ request.Call call ∷ [])) new.answers
+call_refused says handled seat call so old new talking said put are =
+    put_said (RefusalSaid says (handled ++ request.Call call ∷ [])) old new (told.Refused so) put (wider says handled (request.Call call ∷ []) old.answers are)
+    (last_said says handled (request.Call call) old.answers so (inl (record { seat = seat; talked = talking.0; receipts = talking.1; said = said })))
 
-end_put : (unopened : Request → Refusal → Type 0) (refused : SeatState → Call → Refusal → Type 0) (ended : SeatState → Why → Type 0) (base : Option (List ℕ)) (handled : List Request) (call : Call)
-    (seat : SeatState) (old new : OutputState) (so : Refusal) (found : LeaveCause) → PutsGivenUp old new so found → EndTold (ended seat) so
-    → IsWaitingAt base handled call seat old → AreSaid (RefusalSaid unopened refused ended (handled ++ request.Call call ∷ [])) old.answers → AreSaid (RefusalSaid unopened refused ended (handled ++ request.Call call ∷ [])) new.answers
-end_put unopened refused ended base handled call seat old new so found put said w are =
-    given_up_put (RefusalSaid unopened refused ended (handled ++ request.Call call ∷ [])) old new so found put are
-    (last_said unopened refused ended handled (request.Call call) old.answers so (inr (record { seat = seat; waits = w.waits; receipts = w.receipts; said = said })))
+end_put : (says : Says) (base : Option (List ℕ)) (handled : List Request) (call : Call)
+    (seat : SeatState) (old new : OutputState) (so : Refusal) (found : LeaveCause) → PutsGivenUp old new so found → EndTold (says.ended seat) so
+    → IsWaitingAt base handled call seat old → AreSaid (RefusalSaid says (handled ++ request.Call call ∷ [])) old.answers → AreSaid (RefusalSaid says (handled ++ request.Call call ∷ [])) new.answers
+end_put says base handled call seat old new so found put said w are =
+    given_up_put (RefusalSaid says (handled ++ request.Call call ∷ [])) old new so found put are
+    (last_said says handled (request.Call call) old.answers so (inr (record { seat = seat; waits = w.waits; receipts = w.receipts; said = said })))
 
 -- the process of the seat ended in the call that it waited in
-pub ended_refused : (unopened : Request → Refusal → Type 0) (refused : SeatState → Call → Refusal → Type 0) (ended : SeatState → Why → Type 0) (base : Option (List ℕ)) (handled : List Request)
-    (call : Call) (seat spent : SeatState) (reason : Why) (old new : OutputState) (found : Turn) → TellsWhy spent reason old new found → ended seat reason
-    → IsWaitingAt base handled call seat old → AreSaid (RefusalSaid unopened refused ended (handled ++ request.Call call ∷ [])) old.answers → AreSaid (RefusalSaid unopened refused ended (handled ++ request.Call call ∷ [])) new.answers
-ended_refused unopened refused ended base handled call seat spent ended_why.NoMemory old new (turn.Over (over.Ended held why)) tells said w are = end_put unopened refused ended base handled call seat old new refusal.NoMemory why tells.0 said w are
-ended_refused unopened refused ended base handled call seat spent ended_why.RunFull old new (turn.Over (over.Ended held why)) tells said w are = end_put unopened refused ended base handled call seat old new refusal.RunFull why tells.0 said w are
-ended_refused unopened refused ended base handled call seat spent ended_why.Lost old new (turn.Lost held) tells said w are = same_said (RefusalSaid unopened refused ended (handled ++ request.Call call ∷ [])) old new tells.0 are
-ended_refused unopened refused ended base handled call seat spent ended_why.Foreign old new (turn.Over (over.Foreign held)) tells said w are = same_said (RefusalSaid unopened refused ended (handled ++ request.Call call ∷ [])) old new tells.0 are
-ended_refused unopened refused ended base handled call seat spent reason old new found tells said w are = absurd tells
+pub ended_refused : (says : Says) (base : Option (List ℕ)) (handled : List Request)
+    (call : Call) (seat spent : SeatState) (reason : Why) (old new : OutputState) (found : Turn) → TellsWhy spent reason old new found → says.ended seat reason
+    → IsWaitingAt base handled call seat old → AreSaid (RefusalSaid says (handled ++ request.Call call ∷ [])) old.answers → AreSaid (RefusalSaid says (handled ++ request.Call call ∷ [])) new.answers
+ended_refused says base handled call seat spent ended_why.NoMemory old new (turn.Over (over.Ended held why)) tells said w are = end_put says base handled call seat old new refusal.NoMemory why tells.0 said w are
+ended_refused says base handled call seat spent ended_why.RunFull old new (turn.Over (over.Ended held why)) tells said w are = end_put says base handled call seat old new refusal.RunFull why tells.0 said w are
+ended_refused says base handled call seat spent ended_why.Lost old new (turn.Lost held) tells said w are = same_said (RefusalSaid says (handled ++ request.Call call ∷ [])) old new tells.0 are
+ended_refused says base handled call seat spent ended_why.Foreign old new (turn.Over (over.Foreign held)) tells said w are = same_said (RefusalSaid says (handled ++ request.Call call ∷ [])) old new tells.0 are
+ended_refused says base handled call seat spent reason old new found tells said w are = absurd tells
 
 -- ---- requests
 

@@ -19,6 +19,7 @@ use Rattle.session_core.specs.OutputState.{OutputState}
 use Rattle.session_core.specs.Proved.Turns.{PutsGivenUp, TellsWhy, WhyRefused}
 use Rattle.session_core.specs.Said.{EndSaid, SaidEnded}
 use Rattle.session_core.specs.Proved.Saying.{CauseSaid, CauseEndedSaid, IsReadingEnd, OverSaid, TurnSaid}
+use Rattle.system_lock.specs.Kernel.{Says}
 
 -- a refusal that brings this end
 why_refused : (unopened : Request → Refusal → Type 0) (request : Request) (told : Refusal) (found : LeaveCause) → WhyRefused told found → unopened request told → CauseSaid unopened found
@@ -44,61 +45,61 @@ wanting_said ended spent old new found (inr none) said = rw none.0 (inl said)
 same_spent : (ended : SeatState → Why → Type 0) (seat spent : SeatState) (reason : Why) → seat ≡ spent → SaidEnded ended spent reason → SaidEnded ended seat reason
 same_spent ended seat spent reason e said = subst (λ (s : SeatState). SaidEnded ended s reason) (sym e) said
 
-pub given_up_said : (unopened : Request → Refusal → Type 0) (ended : SeatState → Why → Type 0) (spent : SeatState) (reason : Why) (old new : OutputState) (found : Turn) → TellsWhy spent reason old new found → SaidEnded ended spent reason → TurnSaid unopened ended found
-given_up_said unopened ended spent ended_why.NoMemory old new (turn.Over (over.Ended seat why)) tells said = wanting_said ended seat old new why tells.0 (same_spent ended seat spent ended_why.NoMemory tells.1 said)
-given_up_said unopened ended spent ended_why.RunFull old new (turn.Over (over.Ended seat why)) tells said = full_said ended seat old new why tells.0 (same_spent ended seat spent ended_why.RunFull tells.1 said)
-given_up_said unopened ended spent ended_why.Lost old new (turn.Lost seat) tells said = same_spent ended seat spent ended_why.Lost tells.1 said
-given_up_said unopened ended spent ended_why.Foreign old new (turn.Over (over.Foreign seat)) tells said = same_spent ended seat spent ended_why.Foreign tells.1 said
-given_up_said unopened ended spent reason old new found tells said = absurd tells
+pub given_up_said : (says : Says) (spent : SeatState) (reason : Why) (old new : OutputState) (found : Turn) → TellsWhy spent reason old new found → SaidEnded says.ended spent reason → TurnSaid says found
+given_up_said says spent ended_why.NoMemory old new (turn.Over (over.Ended seat why)) tells said = wanting_said says.ended seat old new why tells.0 (same_spent says.ended seat spent ended_why.NoMemory tells.1 said)
+given_up_said says spent ended_why.RunFull old new (turn.Over (over.Ended seat why)) tells said = full_said says.ended seat old new why tells.0 (same_spent says.ended seat spent ended_why.RunFull tells.1 said)
+given_up_said says spent ended_why.Lost old new (turn.Lost seat) tells said = same_spent says.ended seat spent ended_why.Lost tells.1 said
+given_up_said says spent ended_why.Foreign old new (turn.Over (over.Foreign seat)) tells said = same_spent says.ended seat spent ended_why.Foreign tells.1 said
+given_up_said says spent reason old new found tells said = absurd tells
 
 -- the end that is told once the last answers are written
-why_end : (unopened : Request → Refusal → Type 0) (ended : SeatState → Why → Type 0) (seat : Option SeatState) (why : LeaveCause) → CauseSaid unopened why → EndSaid unopened ended seat (end_of why)
-why_end unopened ended seat why.Closed said = tt
-why_end unopened ended seat why.ReadFault said = tt
-why_end unopened ended seat why.Malformed said = tt
-why_end unopened ended seat why.RunFull said = inl said
-why_end unopened ended seat why.NoMemory said = tt
-why_end unopened ended seat why.Ahead said = tt
+why_end : (says : Says) (seat : Option SeatState) (why : LeaveCause) → CauseSaid says.not_opened why → EndSaid says seat (end_of why)
+why_end says seat why.Closed said = tt
+why_end says seat why.ReadFault said = tt
+why_end says seat why.Malformed said = tt
+why_end says seat why.RunFull said = inl said
+why_end says seat why.NoMemory said = tt
+why_end says seat why.Ahead said = tt
 
-ended_end : (unopened : Request → Refusal → Type 0) (ended : SeatState → Why → Type 0) (spent : SeatState) (why : LeaveCause) → CauseEndedSaid ended spent why → EndSaid unopened ended (Some spent) (end_of why)
-ended_end unopened ended spent why.Closed said = tt
-ended_end unopened ended spent why.ReadFault said = tt
-ended_end unopened ended spent why.Malformed said = tt
-ended_end unopened ended spent why.RunFull said = inr said
-ended_end unopened ended spent why.NoMemory said = tt
-ended_end unopened ended spent why.Ahead said = tt
+ended_end : (says : Says) (spent : SeatState) (why : LeaveCause) → CauseEndedSaid says.ended spent why → EndSaid says (Some spent) (end_of why)
+ended_end says spent why.Closed said = tt
+ended_end says spent why.ReadFault said = tt
+ended_end says spent why.Malformed said = tt
+ended_end says spent why.RunFull said = inr said
+ended_end says spent why.NoMemory said = tt
+ended_end says spent why.Ahead said = tt
 
-sent_end : (unopened : Request → Refusal → Type 0) (ended : SeatState → Why → Type 0) (seat : Option SeatState) (old new : OutputState) (why : LeaveCause) (found : End) → SendsLast old new why found
-    → EndSaid unopened ended seat (end_of why) → EndSaid unopened ended seat found
-sent_end unopened ended seat old new why found (inl sent) said = rw sent.1 said
-sent_end unopened ended seat old new why found (inr failed) said = rw failed.1 tt
+sent_end : (says : Says) (seat : Option SeatState) (old new : OutputState) (why : LeaveCause) (found : End) → SendsLast old new why found
+    → EndSaid says seat (end_of why) → EndSaid says seat found
+sent_end says seat old new why found (inl sent) said = rw sent.1 said
+sent_end says seat old new why found (inr failed) said = rw failed.1 tt
 
-pub leaves_said : (unopened : Request → Refusal → Type 0) (ended : SeatState → Why → Type 0) (seat : Option SeatState) (old new : OutputState) (is : Over) (stage : Stage) (why : LeaveCause) (found : End) → is ≡ over.Leaves stage why → SendsLast old new why found
-    → OverSaid unopened ended is → EndSaid unopened ended seat found
-leaves_said unopened ended seat old new is stage why found same sends said = sent_end unopened ended seat old new why found sends (why_end unopened ended seat why (subst (OverSaid unopened ended) same said))
+pub leaves_said : (says : Says) (seat : Option SeatState) (old new : OutputState) (is : Over) (stage : Stage) (why : LeaveCause) (found : End) → is ≡ over.Leaves stage why → SendsLast old new why found
+    → OverSaid says is → EndSaid says seat found
+leaves_said says seat old new is stage why found same sends said = sent_end says seat old new why found sends (why_end says seat why (subst (OverSaid says) same said))
 
-pub ended_said : (unopened : Request → Refusal → Type 0) (ended : SeatState → Why → Type 0) (old new : OutputState) (is : Over) (seat : SeatState) (why : LeaveCause) (found : End) → is ≡ over.Ended seat why → SendsLast old new why found → OverSaid unopened ended is
-    → EndSaid unopened ended (Some seat) found
-ended_said unopened ended old new is seat why found same sends said = sent_end unopened ended (Some seat) old new why found sends (ended_end unopened ended seat why (subst (OverSaid unopened ended) same said))
+pub ended_said : (says : Says) (old new : OutputState) (is : Over) (seat : SeatState) (why : LeaveCause) (found : End) → is ≡ over.Ended seat why → SendsLast old new why found → OverSaid says is
+    → EndSaid says (Some seat) found
+ended_said says old new is seat why found same sends said = sent_end says (Some seat) old new why found sends (ended_end says seat why (subst (OverSaid says) same said))
 
-reading_end : (unopened : Request → Refusal → Type 0) (ended : SeatState → Why → Type 0) (seat : Option SeatState) (why : LeaveCause) → IsReadingEnd why → EndSaid unopened ended seat (end_of why)
-reading_end unopened ended seat why.Closed said = tt
-reading_end unopened ended seat why.ReadFault said = tt
-reading_end unopened ended seat why.Malformed said = tt
-reading_end unopened ended seat why.RunFull said = absurd said
-reading_end unopened ended seat why.NoMemory said = tt
-reading_end unopened ended seat why.Ahead said = tt
+reading_end : (says : Says) (seat : Option SeatState) (why : LeaveCause) → IsReadingEnd why → EndSaid says seat (end_of why)
+reading_end says seat why.Closed said = tt
+reading_end says seat why.ReadFault said = tt
+reading_end says seat why.Malformed said = tt
+reading_end says seat why.RunFull said = absurd said
+reading_end says seat why.NoMemory said = tt
+reading_end says seat why.Ahead said = tt
 
-pub lost_said : (unopened : Request → Refusal → Type 0) (ended : SeatState → Why → Type 0) (old new : OutputState) (is : Over) (seat : SeatState) (why : LeaveCause) (found : End) → is ≡ over.Lost seat why → SendsLast old new why found → OverSaid unopened ended is
-    → EndSaid unopened ended (Some seat) found
-lost_said unopened ended old new is seat why found same sends said =
-    sent_end unopened ended (Some seat) old new why found sends (reading_end unopened ended (Some seat) why (subst (OverSaid unopened ended) same said).1)
+pub lost_said : (says : Says) (old new : OutputState) (is : Over) (seat : SeatState) (why : LeaveCause) (found : End) → is ≡ over.Lost seat why → SendsLast old new why found → OverSaid says is
+    → EndSaid says (Some seat) found
+lost_said says old new is seat why found same sends said =
+    sent_end says (Some seat) old new why found sends (reading_end says (Some seat) why (subst (OverSaid says) same said).1)
 
-pub closed_said : (unopened : Request → Refusal → Type 0) (ended : SeatState → Why → Type 0) (seat : Option SeatState) (old new : OutputState) (found : End) → SendsLast old new why.Closed found → EndSaid unopened ended seat found
-closed_said unopened ended seat old new found sends = sent_end unopened ended seat old new why.Closed found sends tt
+pub closed_said : (says : Says) (seat : Option SeatState) (old new : OutputState) (found : End) → SendsLast old new why.Closed found → EndSaid says seat found
+closed_said says seat old new found sends = sent_end says seat old new why.Closed found sends tt
 
-pub foreign_said : (unopened : Request → Refusal → Type 0) (ended : SeatState → Why → Type 0) (is : Over) (seat : SeatState) → is ≡ over.Foreign seat → OverSaid unopened ended is → EndSaid unopened ended (Some seat) end.Foreign
-foreign_said unopened ended is seat same said = subst (OverSaid unopened ended) same said
+pub foreign_said : (says : Says) (is : Over) (seat : SeatState) → is ≡ over.Foreign seat → OverSaid says is → EndSaid says (Some seat) end.Foreign
+foreign_said says is seat same said = subst (OverSaid says) same said
 
 -- a session that leaves off keeps its seat
 hung : (seat : SeatState) (wanted : End) (told : Result SeatState (Unit {0})) (left : LeftSession) → left.seat ≡ told → LeavesWith (stage.Ready seat) wanted told left.end → HangsUpSeat seat left

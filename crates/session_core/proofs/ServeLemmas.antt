@@ -3,7 +3,6 @@ use Rattle.std.proofs.Common.{◌≡◌, ℕ, ◌≤◌, Bool, inl, inr, List, [
 use Rattle.std.proofs.lemmas.List.{append-nil, append_assoc}
 use Rattle.std.proofs.KnownBytes.{Appends-nil, Consumes-nil}
 use Rattle.rtrb.specs.Ring.{sent, producer_capacity}
-use Rattle.call_types.specs.declared.call.Call.{Call}
 use Rattle.call_types.specs.declared.refusal.Refusal.{Refusal}
 use Rattle.call_types.specs.declared.request.Request.{Request}
 use Rattle.frame_codec.specs.declared.decoder.Progress.TheVariants as progress
@@ -39,6 +38,7 @@ use Rattle.session_core.proofs.CallLemmas.{converses, has_receipts}
 use Rattle.session_core.proofs.ClosingLemmas.{converses_more, first_none}
 use Rattle.session_core.proofs.CutLemmas.{cut_said}
 use Rattle.session_core.proofs.RefusalLemmas.{empty_said, kept_said, wider, with_last_said}
+use Rattle.system_lock.specs.Kernel.{Says}
 
 -- ---- a session that has read nothing
 
@@ -83,17 +83,17 @@ has_unstarted always from base = record {
 none_said : (Said : List Request → List Told → Refusal → Type 0) (input : List ℕ) → BeginsSaid Said input []
 none_said Said input = record { requests = []; begins = first_nothing [] refl input; said = empty_said (Said []) [] refl }
 
-pub unserved : (unopened : Request → Refusal → Type 0) (refused : SeatState → Call → Refusal → Type 0) (ended : SeatState → Why → Type 0) (always : Bool) (from base : Option (List ℕ))
-    → ServesUnder unopened refused ended always from base (unserved_by (Some from) base end.NoMemory)
-unserved unopened refused ended always from base =
+pub unserved : (says : Says) (always : Bool) (from base : Option (List ℕ))
+    → ServesUnder says always from base (unserved_by (Some from) base end.NoMemory)
+unserved says always from base =
     let serves = has_unserved always from base in
-    record { serves = serves; refusals = none_said (RefusalSaid unopened refused ended) serves.input }
+    record { serves = serves; refusals = none_said (RefusalSaid says) serves.input }
 
-pub unstarted : (unopened : Request → Refusal → Type 0) (refused : SeatState → Call → Refusal → Type 0) (ended : SeatState → Why → Type 0) (always : Bool) (from base : Option (List ℕ))
-    → ServesUnder unopened refused ended always from base (unserved_by None base end.NoThread)
-unstarted unopened refused ended always from base =
+pub unstarted : (says : Says) (always : Bool) (from base : Option (List ℕ))
+    → ServesUnder says always from base (unserved_by None base end.NoThread)
+unstarted says always from base =
     let serves = has_unstarted always from base in
-    record { serves = serves; refusals = none_said (RefusalSaid unopened refused ended) serves.input }
+    record { serves = serves; refusals = none_said (RefusalSaid says) serves.input }
 
 -- nothing was written to its writer
 pub unwritten_by : (s : SessionState) (remaining : Option (Option (List ℕ))) (held : Option (List ℕ)) (writer : LoggedWriterState) (found : End) → writer ≡ record { contents = held; log = fresh_log }
@@ -292,17 +292,17 @@ no_failure : (found : Over) (old : OutputState) (answers : List Told) (given : E
 no_failure found old answers end.NoThread failures h = absurd h
 no_failure found old answers other failures h = refl
 
-pub started : (unopened : Request → Refusal → Type 0) (refused : SeatState → Call → Refusal → Type 0) (ended : SeatState → Why → Type 0) (always : Bool) (base : Option (List ℕ)) (p : PumpState) (s : SessionState) (failures : ℕ)
-    → Settles unopened refused ended always base p s → failures_after s.end_is failures ≡ failures
-started unopened refused ended always base p s failures settles =
+pub started : (says : Says) (always : Bool) (base : Option (List ℕ)) (p : PumpState) (s : SessionState) (failures : ℕ)
+    → Settles says always base p s → failures_after s.end_is failures ≡ failures
+started says always base p s failures settles =
     let ending = settles.ending in
     subst (λ (x : SessionState). failures_after x.end_is failures ≡ failures) settles.is
     (no_failure ending.found ending.old (with_last settles.o.answers settles.left.last) settles.left.end failures ending.left_by.closes)
 
 -- what it comes to
-has_served : (unopened : Request → Refusal → Type 0) (refused : SeatState → Call → Refusal → Type 0) (ended : SeatState → Why → Type 0) (always : Bool) (from base : Option (List ℕ)) (ring : PushingEnd) (p : PumpState) (s : SessionState)
-    → IsFreshRing ring → Pumps from ring p → Settles unopened refused ended always base p s → Serves always from base s
-has_served unopened refused ended always from base ring p s fresh h settles =
+has_served : (says : Says) (always : Bool) (from base : Option (List ℕ)) (ring : PushingEnd) (p : PumpState) (s : SessionState)
+    → IsFreshRing ring → Pumps from ring p → Settles says always base p s → Serves always from base s
+has_served says always from base ring p s fresh h settles =
     let ending = settles.ending in
     let at = is_over (producer_capacity ring) base h.input p ending.old ending.found fresh.room (pushed_from from ring p fresh h) h.met h.given_back ending.ends in
     let comes : ComesTo h.input base s = subst (ComesTo h.input base) settles.is (ending.left_by.leaves.read base h.input p.reader p.pushes at.0 at.1) in
@@ -318,38 +318,38 @@ has_served unopened refused ended always from base ring p s fresh h settles =
       comes = comes;
     }
 
-pub end_said : (unopened : Request → Refusal → Type 0) (refused : SeatState → Call → Refusal → Type 0) (ended : SeatState → Why → Type 0) (always : Bool) (base : Option (List ℕ)) (p : PumpState) (s : SessionState) → Settles unopened refused ended always base p s
-    → EndSaid unopened ended s.seat s.end_is
-end_said unopened refused ended always base p s settles = subst (λ (x : SessionState). EndSaid unopened ended x.seat x.end_is) settles.is settles.ending.left_by.end_said
+pub end_said : (says : Says) (always : Bool) (base : Option (List ℕ)) (p : PumpState) (s : SessionState) → Settles says always base p s
+    → EndSaid says s.seat s.end_is
+end_said says always base p s settles = subst (λ (x : SessionState). EndSaid says x.seat x.end_is) settles.is settles.ending.left_by.end_said
 
-pub given_up : (unopened : Request → Refusal → Type 0) (refused : SeatState → Call → Refusal → Type 0) (ended : SeatState → Why → Type 0) (always : Bool) (from base : Option (List ℕ)) (ring : PushingEnd) (p : PumpState) (s : SessionState)
-    → IsFreshRing ring → Pumps from ring p → Settles unopened refused ended always base p s → CutSaid ended s.seat s.answers s.end_is
-given_up unopened refused ended always from base ring p s fresh h settles =
+pub given_up : (says : Says) (always : Bool) (from base : Option (List ℕ)) (ring : PushingEnd) (p : PumpState) (s : SessionState)
+    → IsFreshRing ring → Pumps from ring p → Settles says always base p s → CutSaid says.ended s.seat s.answers s.end_is
+given_up says always from base ring p s fresh h settles =
     let ending = settles.ending in
     let by = ending.left_by in
     let at = is_over (producer_capacity ring) base h.input p ending.old ending.found fresh.room (pushed_from from ring p fresh h) h.met h.given_back ending.ends in
-    subst (λ (x : SessionState). CutSaid ended x.seat x.answers x.end_is) settles.is
-    (cut_said unopened ended base h.input p.reader ending.old settles.o ending.found settles.left (with_last settles.o.answers settles.left.last) at.0 by.over_said by.keeps by.closes refl)
+    subst (λ (x : SessionState). CutSaid says.ended x.seat x.answers x.end_is) settles.is
+    (cut_said says base h.input p.reader ending.old settles.o ending.found settles.left (with_last settles.o.answers settles.left.last) at.0 by.over_said by.keeps by.closes refl)
 
-refusals_said : (unopened : Request → Refusal → Type 0) (refused : SeatState → Call → Refusal → Type 0) (ended : SeatState → Why → Type 0) (always : Bool) (from base : Option (List ℕ)) (ring : PushingEnd) (p : PumpState) (s : SessionState)
-    → IsFreshRing ring → (h : Pumps from ring p) → Settles unopened refused ended always base p s → BeginsSaid (RefusalSaid unopened refused ended) h.input s.answers
-refusals_said unopened refused ended always from base ring p s fresh h settles =
+refusals_said : (says : Says) (always : Bool) (from base : Option (List ℕ)) (ring : PushingEnd) (p : PumpState) (s : SessionState)
+    → IsFreshRing ring → (h : Pumps from ring p) → Settles says always base p s → BeginsSaid (RefusalSaid says) h.input s.answers
+refusals_said says always from base ring p s fresh h settles =
     let by = settles.ending.left_by in
     let b = begun p.end_is (producer_capacity ring) h.input (sent p.producer) (pushed_from from ring p fresh h) in
     let all = sent p.producer ++ b.extra in
-    let said = wider unopened refused ended (sent p.producer) b.extra settles.ending.old.answers by.said in
-    subst (λ (x : SessionState). BeginsSaid (RefusalSaid unopened refused ended) h.input x.answers) settles.is (record {
+    let said = wider says (sent p.producer) b.extra settles.ending.old.answers by.said in
+    subst (λ (x : SessionState). BeginsSaid (RefusalSaid says) h.input x.answers) settles.is (record {
       requests = all;
       begins = b.begins;
       said =
-          with_last_said (RefusalSaid unopened refused ended all) settles.o.answers settles.left.last
-          (kept_said (RefusalSaid unopened refused ended all) settles.ending.old.answers settles.o.answers by.answers said);
+          with_last_said (RefusalSaid says all) settles.o.answers settles.left.last
+          (kept_said (RefusalSaid says all) settles.ending.old.answers settles.o.answers by.answers said);
     })
 
-pub served : (unopened : Request → Refusal → Type 0) (refused : SeatState → Call → Refusal → Type 0) (ended : SeatState → Why → Type 0) (always : Bool) (from base : Option (List ℕ)) (ring : PushingEnd) (p : PumpState) (s : SessionState)
-    → IsFreshRing ring → Pumps from ring p → Settles unopened refused ended always base p s → ServesUnder unopened refused ended always from base s
+pub served : (says : Says) (always : Bool) (from base : Option (List ℕ)) (ring : PushingEnd) (p : PumpState) (s : SessionState)
+    → IsFreshRing ring → Pumps from ring p → Settles says always base p s → ServesUnder says always from base s
 unfolding has_served
-served unopened refused ended always from base ring p s fresh h settles = record {
-  serves = has_served unopened refused ended always from base ring p s fresh h settles;
-  refusals = refusals_said unopened refused ended always from base ring p s fresh h settles;
+served says always from base ring p s fresh h settles = record {
+  serves = has_served says always from base ring p s fresh h settles;
+  refusals = refusals_said says always from base ring p s fresh h settles;
 }

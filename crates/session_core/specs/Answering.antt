@@ -2,8 +2,6 @@
 use Rattle.std.specs.Prelude.{◌≡◌, ℕ, Bool, true, List, [], Option, None, Some}
 use Rattle.std.specs.Io.KnownBytes.{Appends}
 use Rattle.rtrb.specs.Ring.{received}
-use Rattle.call_types.specs.declared.call.Call.{Call}
-use Rattle.call_types.specs.declared.refusal.Refusal.{Refusal}
 use Rattle.call_types.specs.declared.request.Request.{Request}
 use Rattle.logged_streams.specs.Streams.{LoggedWriterState}
 use Rattle.record_book.specs.Seat.{SeatState}
@@ -21,6 +19,7 @@ use Rattle.session_core.specs.declared.told.Told.{Told}
 use Rattle.std.specs.declared.alloc.Global.{Global}
 use Rattle.rtrb.specs.declared.AnyItems.{AnyItems}
 use Rattle.rtrb.specs.declared.consumer.Consumer.{Consumer}
+use Rattle.system_lock.specs.Kernel.{Says}
 
 -- what a session holds of its run, seen as what its seat holds
 abbrev pub AnsweredSeat : Type 0
@@ -55,9 +54,9 @@ abbrev pub ComesToEnd : Option (List ℕ) → List Request → AnsweredState →
 ComesToEnd base taken s found = ComesBy (AreTaken taken) (EndsAt (AreTaken taken)) base s.writer (spent_of s.seat_is) s.answers found
 
 -- without an end of its own all that was taken is answered, but for a last call that is given up, and all answers are written after what the writer held
-abbrev pub HasAnswered : (Request → Refusal → Type 0) → (SeatState → Why → Type 0) → Option (List ℕ) → List Request → AnsweredState → Option End → Type 0
-HasAnswered unopened ended base taken s None = AnswersTaken ended taken s.answers s.seat_is × Appends base s.writer.contents (answers_text s.answers)
-HasAnswered unopened ended base taken s (Some found) = ComesToEnd base taken s found × EndSaid unopened ended (spent_of s.seat_is) found
+abbrev pub HasAnswered : Says → Option (List ℕ) → List Request → AnsweredState → Option End → Type 0
+HasAnswered says base taken s None = AnswersTaken says.ended taken s.answers s.seat_is × Appends base s.writer.contents (answers_text s.answers)
+HasAnswered says base taken s (Some found) = ComesToEnd base taken s found × EndSaid says (spent_of s.seat_is) found
 
 -- a connection was shut that held what the writer holds, where there is an end of its own
 abbrev pub IsShutAtItsEnd : (Option (List ℕ) → Type 0) → LoggedWriterState → Option End → Type 0
@@ -65,7 +64,7 @@ IsShutAtItsEnd was_shut writer None = Unit {0}
 IsShutAtItsEnd was_shut writer (Some found) = was_shut writer.contents
 
 -- what came of the requests of a ring, each refusal of which was said by the kernel; a gate that always says yes has refused no answer
-pub record AnswersRing (unopened : Request → Refusal → Type 0) (refused : SeatState → Call → Refusal → Type 0) (ended : SeatState → Why → Type 0) (always : Bool) (base : Option (List ℕ)) (s : AnsweredState) : Type 0 where
-  pub answered : HasAnswered unopened ended base (received s.ring) s s.end_is
-  pub said : AreSaid (RefusalSaid unopened refused ended (received s.ring)) s.answers
+pub record AnswersRing (says : Says) (always : Bool) (base : Option (List ℕ)) (s : AnsweredState) : Type 0 where
+  pub answered : HasAnswered says base (received s.ring) s s.end_is
+  pub said : AreSaid (RefusalSaid says (received s.ring)) s.answers
   pub let_through : always ≡ true → s.writer.log.refusals ≡ 0

@@ -14,6 +14,7 @@ use Rattle.session_core.specs.Answers.{receipts_of}
 use Rattle.request_pump.specs.Input.{Begins}
 use Rattle.session_core.specs.Served.{Serves, SessionState}
 use Rattle.session_core.specs.Talk.{Talked, Waits}
+use Rattle.system_lock.specs.Kernel.{Says}
 
 -- a process ended, in the call that it waited in, for what this refusal tells
 abbrev pub EndTold : (Why → Type 0) → Refusal → Type 0
@@ -42,18 +43,18 @@ pub record WaitRefused (ended : SeatState → Why → Type 0) (earlier : List Re
   pub said : EndTold (ended seat) so
 
 -- a kernel refused this request so, after these requests and the answers before
-abbrev pub NextRefused : (Request → Refusal → Type 0) → (SeatState → Call → Refusal → Type 0) → (SeatState → Why → Type 0) → List Request → List Told → Request → Refusal → Type 0
-NextRefused unopened refused ended earlier before request.Join so = OpeningRefused unopened earlier before request.Join so
-NextRefused unopened refused ended earlier before (request.Attach process) so = OpeningRefused unopened earlier before (request.Attach process) so
-NextRefused unopened refused ended earlier before (request.Call call) so = CallRefused refused earlier before call so ⊎ WaitRefused ended earlier before call so
+abbrev pub NextRefused : Says → List Request → List Told → Request → Refusal → Type 0
+NextRefused says earlier before request.Join so = OpeningRefused says.not_opened earlier before request.Join so
+NextRefused says earlier before (request.Attach process) so = OpeningRefused says.not_opened earlier before (request.Attach process) so
+NextRefused says earlier before (request.Call call) so = CallRefused says.refused earlier before call so ⊎ WaitRefused says.ended earlier before call so
 
 -- a kernel refused one of these requests so, after these answers
-pub record RefusalSaid (unopened : Request → Refusal → Type 0) (refused : SeatState → Call → Refusal → Type 0) (ended : SeatState → Why → Type 0) (requests : List Request) (before : List Told) (so : Refusal) : Type 0 where
+pub record RefusalSaid (says : Says) (requests : List Request) (before : List Told) (so : Refusal) : Type 0 where
   pub earlier : List Request
   pub next : Request
   pub later : List Request
   pub requests_are : requests ≡ earlier ++ next ∷ later
-  pub is : NextRefused unopened refused ended earlier before next so
+  pub is : NextRefused says earlier before next so
 
 -- each refusal among these answers was said after the answers before it
 abbrev pub AreSaid : (List Told → Refusal → Type 0) → List Told → Type 0
@@ -66,6 +67,6 @@ pub record BeginsSaid (Said : List Request → List Told → Refusal → Type 0)
   pub said : AreSaid (Said requests) answers
 
 -- a session did what is promised of any, and a kernel said each refusal that it told, of the requests with which the bytes begin that it read
-pub record ServesUnder (unopened : Request → Refusal → Type 0) (refused : SeatState → Call → Refusal → Type 0) (ended : SeatState → Why → Type 0) (always : Bool) (from base : Option (List ℕ)) (s : SessionState) : Type 0 where
+pub record ServesUnder (says : Says) (always : Bool) (from base : Option (List ℕ)) (s : SessionState) : Type 0 where
   pub serves : Serves always from base s
-  pub refusals : BeginsSaid (RefusalSaid unopened refused ended) serves.input s.answers
+  pub refusals : BeginsSaid (RefusalSaid says) serves.input s.answers

@@ -4,7 +4,7 @@ use Rattle.call_types.specs.declared.refusal.Refusal.{Refusal}
 use Rattle.call_types.specs.declared.refusal.Refusal.TheVariants as refusal
 use Rattle.call_types.specs.declared.request.Request.{Request}
 use Rattle.record_book.specs.Seat.{SeatState}
-use Rattle.system_lock.specs.Kernel.{EndsBy}
+use Rattle.system_lock.specs.Kernel.{EndsBy, Says}
 use Rattle.system_lock.specs.declared.kernel.Why.{Why}
 use Rattle.system_lock.specs.declared.kernel.Why.TheVariants as ended_why
 use Rattle.session_core.specs.declared.end.End.{End}
@@ -26,16 +26,16 @@ SeatSaid ended None reason = ⊥
 SeatSaid ended (Some spent) reason = SaidEnded ended spent reason
 
 -- a session with this seat ends with Foreign or RunFull only where its kernel said so: of this seat, or that an opening is refused
-abbrev pub EndSaid : (Request → Refusal → Type 0) → (SeatState → Why → Type 0) → Option SeatState → End → Type 0
-EndSaid unopened ended seat end.Closed = Unit {0}
-EndSaid unopened ended seat end.ReadFault = Unit {0}
-EndSaid unopened ended seat (end.WriteFault sent) = Unit {0}
-EndSaid unopened ended seat end.Malformed = Unit {0}
-EndSaid unopened ended seat end.Ahead = Unit {0}
-EndSaid unopened ended seat end.NoThread = Unit {0}
-EndSaid unopened ended seat end.RunFull = SaidUnopened unopened ⊎ SeatSaid ended seat ended_why.RunFull
-EndSaid unopened ended seat end.NoMemory = Unit {0}
-EndSaid unopened ended seat end.Foreign = SeatSaid ended seat ended_why.Foreign
+abbrev pub EndSaid : Says → Option SeatState → End → Type 0
+EndSaid says seat end.Closed = Unit {0}
+EndSaid says seat end.ReadFault = Unit {0}
+EndSaid says seat (end.WriteFault sent) = Unit {0}
+EndSaid says seat end.Malformed = Unit {0}
+EndSaid says seat end.Ahead = Unit {0}
+EndSaid says seat end.NoThread = Unit {0}
+EndSaid says seat end.RunFull = SaidUnopened says.not_opened ⊎ SeatSaid says.ended seat ended_why.RunFull
+EndSaid says seat end.NoMemory = Unit {0}
+EndSaid says seat end.Foreign = SeatSaid says.ended seat ended_why.Foreign
 
 -- the ends for which a session leaves off when no more is read or taken up, with all answers written
 abbrev pub IsEndOfReads : End → Type 0

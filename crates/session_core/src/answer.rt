@@ -2,6 +2,7 @@
 
 ghost use Rattle.std.specs.Prelude.{◌≡◌, [], true};
 ghost use Rattle.rtrb.specs.Ring.{received, SameConsumer};
+ghost use Rattle.run_history.specs.Fronts.{Grows, Since};
 ghost use Rattle.session_core.specs.Answering.{AnswersRing, IsShutAtItsEnd};
 ghost use Rattle.session_core.specs.Proved.Leaving.{answered_of, seat_of};
 ghost use Rattle.session_core.specs.Proved.Desk.{StandsOn, IsAtRest};
@@ -20,6 +21,7 @@ use call_types::request::Request;
 use logged_streams::writer::LoggedWriter;
 use record_book::seat::{Seat, SpentSeat};
 use rtrb::Consumer;
+use run_history::front::{Front, OfHistory};
 use std::alloc::Global;
 use std::io::Write;
 use std::marker::Model;
@@ -65,27 +67,29 @@ fn answer_all<
     Rt: Wait,
     W: Write + Connection,
     G: Gate,
-    L: Ledgers,
-    K: Kernel<Seat<L>, SpentSeat<L>>,
+    L: Ledgers + OfHistory,
+    K: Kernel<Seat<L>, SpentSeat<L>, Front<L>>,
 >(
     rt: &Rt,
     note: &Note,
     kernel: &K,
+    front: &mut Front<L>,
     ring: &mut Consumer<Request>,
     output: &mut Output<W, G>,
     standing: StandingOf<L>,
 ) -> StandingOf<L>
     ensures ring { SameConsumer ring.old ring.new }
-    ensures stands { StandsOn K.not_opened K.refused K.ended (received ring.old) output.old standing (received ring.new) output.new result }
+    ensures stands { Since front.new (λ h. StandsOn (K.says h) (received ring.old) output.old standing (received ring.new) output.new result) }
     ensures rests { IsAtRest output.new result }
     ensures shut { ShutIfLeft W.was_shut output.old standing → ShutIfLeft W.was_shut output.new result }
+    ensures grows { Grows front.old front.new }
 {
     let mut standing = standing;
     for _ in rt.forever() {
         let has_ended = note.has_ended(rt);
-        let taken = take_ready(rt, note, kernel, ring, output, standing);
-        standing = match send_ready(rt, kernel, output, taken) {
-            Standing::Waits(seat) => wait_on(rt, kernel, output, seat),
+        let taken = take_ready(rt, note, kernel, front, ring, output, standing);
+        standing = match send_ready(rt, kernel, front, output, taken) {
+            Standing::Waits(seat) => wait_on(rt, kernel, front, output, seat),
             Standing::Ready(stage) => {
                 if has_ended {
                     return Standing::Ready(stage);
@@ -140,13 +144,14 @@ fn answered_by<W: Write, G: Gate, L: Ledgers>(
 
 /// Answers the requests that a ring gives, which another thread reads: that one wakes this one by the note, and says there when it reads
 /// no more. Nothing was taken from the ring before. It ends of itself as a session does, and else once the note says so and the ring is
-/// empty, or the kernel has given up a call; then the seat is not hung up. The gate knows the session by its number.
+/// empty, or the kernel has given up a call; then the seat is not hung up. The gate knows the session by its number. What is known of the
+/// run's history goes on from the front that is given, and is handed back.
 pub fn answer<
     Rt: Wait,
     W: Write + Connection + Drop,
     G: Gate,
-    L: Ledgers,
-    K: Kernel<Seat<L>, SpentSeat<L>>,
+    L: Ledgers + OfHistory,
+    K: Kernel<Seat<L>, SpentSeat<L>, Front<L>>,
 >(
     rt: &Rt,
     alloc: Global,
@@ -154,32 +159,42 @@ pub fn answer<
     note: &Note,
     writer: W,
     kernel: &K,
+    front: Front<L>,
     admission: AdmissionTo<L>,
     session: u64,
     gate: G,
-) -> Answered<W, L>
+) -> (Answered<W, L>, Front<L>)
     requires fresh { received ring ≡ [] }
-    ensures ring { SameConsumer ring result.ring }
-    ensures answers { AnswersRing K.not_opened K.refused K.ended G.is_open (W.contents writer) result }
-    ensures shut { IsShutAtItsEnd W.was_shut result.writer result.end_is }
+    ensures ring { SameConsumer ring result.0.ring }
+    ensures answers { Since result.1 (λ h. AnswersRing (K.says h) G.is_open (W.contents writer) result.0) }
+    ensures shut { IsShutAtItsEnd W.was_shut result.0.writer result.0.end_is }
 {
     let mut output = match Output::new(alloc, writer, session, gate) {
         Ok(output) => output,
         Err(writer) => {
             note.none_opened(rt);
             writer.shut();
-            return Answered {
+            let answered = Answered {
                 seat: AnsweredSeat::None(admission),
                 answers: Vec::new(alloc),
                 end: Some(End::NoMemory),
                 ring,
                 writer: LoggedWriter::new(writer),
             };
+            return (answered, front);
         }
     };
-    let mut ring = ring;
+    let (mut ring, mut front) = (ring, front);
     let opening = Standing::Ready(Stage::Opening(admission));
-    let standing = answer_all(rt, note, kernel, &mut ring, &mut output, opening);
+    let standing = answer_all(
+        rt,
+        note,
+        kernel,
+        &mut front,
+        &mut ring,
+        &mut output,
+        opening,
+    );
     note.none_opened(rt);
-    answered_by(standing, output, ring)
+    (answered_by(standing, output, ring), front)
 }

@@ -1,5 +1,6 @@
 //! How a session is closed: its last answers are written, and its process is hung up.
 
+ghost use Rattle.run_history.specs.Fronts.{Grows, Since};
 ghost use Rattle.session_core.specs.Proved.Closing.{SendsLast, HangsUp, LeavesWith, LeavesAll, HangsUpSeat, KeepsSeat, ClosesBy, end_of};
 ghost use Rattle.session_core.specs.Said.{EndSaid};
 ghost use Rattle.session_core.specs.Proved.Saying.{OverSaid};
@@ -13,6 +14,7 @@ use crate::output::Output;
 use crate::stage::{LeaveCause, LeftOf, LeftSession, Over, OverOf, Stage, StageOf};
 use byte_ledger::ledgers::Ledgers;
 use record_book::seat::{Receipt, Seat, SpentSeat};
+use run_history::front::{Front, OfHistory};
 use std::io::Write;
 use std::sync::Wait;
 use system_lock::kernel::{Kernel, Why};
@@ -44,16 +46,18 @@ fn send_last<W: Write, G: Gate>(output: &mut Output<W, G>, why: LeaveCause) -> E
 }
 
 /// Hangs up a process, and tells the end of its session.
-fn hang_up<Rt: Wait, L: Ledgers, K: Kernel<Seat<L>, SpentSeat<L>>>(
+fn hang_up<Rt: Wait, L: Ledgers + OfHistory, K: Kernel<Seat<L>, SpentSeat<L>, Front<L>>>(
     rt: &Rt,
     kernel: &K,
+    front: &mut Front<L>,
     seat: Seat<L>,
     end: End,
 ) -> (SpentSeat<L>, End)
     ensures hangs_up { HangsUp seat end result.0 result.1 }
-    ensures said { EndSaid K.not_opened K.ended None end → EndSaid K.not_opened K.ended (Some result.0) result.1 }
+    ensures said { Since front.new (λ h. EndSaid (K.says h) None end → EndSaid (K.says h) (Some result.0) result.1) }
+    ensures grows { Grows front.old front.new }
 {
-    let ended = kernel.hang_up(rt, seat);
+    let ended = kernel.hang_up(rt, front, seat);
     match ended.why {
         Why::Foreign => (ended.seat, End::Foreign),
         _ => (ended.seat, end),
@@ -61,15 +65,17 @@ fn hang_up<Rt: Wait, L: Ledgers, K: Kernel<Seat<L>, SpentSeat<L>>>(
 }
 
 /// Hangs up the process of a session, if there is one.
-fn leave<Rt: Wait, L: Ledgers, K: Kernel<Seat<L>, SpentSeat<L>>>(
+fn leave<Rt: Wait, L: Ledgers + OfHistory, K: Kernel<Seat<L>, SpentSeat<L>, Front<L>>>(
     rt: &Rt,
     kernel: &K,
+    front: &mut Front<L>,
     stage: StageOf<L>,
     end: End,
 ) -> LeftOf<L>
     ensures seat { LeavesWith stage end result.seat result.end }
-    ensures said { EndSaid K.not_opened K.ended None end → EndSaid K.not_opened K.ended (result_ok result.seat) result.end }
+    ensures said { Since front.new (λ h. EndSaid (K.says h) None end → EndSaid (K.says h) (result_ok result.seat) result.end) }
     ensures last { result.last ≡ None }
+    ensures grows { Grows front.old front.new }
 {
     match stage {
         Stage::Opening(admission) => LeftSession {
@@ -77,7 +83,7 @@ fn leave<Rt: Wait, L: Ledgers, K: Kernel<Seat<L>, SpentSeat<L>>>(
             end,
             last: None,
         },
-        Stage::Ready(seat) => left_by(hang_up(rt, kernel, seat, end), None),
+        Stage::Ready(seat) => left_by(hang_up(rt, kernel, front, seat, end), None),
     }
 }
 
@@ -95,57 +101,73 @@ fn left_by<L: Ledgers>(ended: (SpentSeat<L>, End), last: Option<Receipt>) -> Lef
 
 /// Leaves a session whose memory ran out for its last answer: the other answers are written, and its process is hung up. Where the
 /// writer fails, the last answer counts as one more that is not written.
-fn leave_untold<Rt: Wait, W: Write, G: Gate, L: Ledgers, K: Kernel<Seat<L>, SpentSeat<L>>>(
+fn leave_untold<
+    Rt: Wait,
+    W: Write,
+    G: Gate,
+    L: Ledgers + OfHistory,
+    K: Kernel<Seat<L>, SpentSeat<L>, Front<L>>,
+>(
     rt: &Rt,
     output: &mut Output<W, G>,
     kernel: &K,
+    front: &mut Front<L>,
     seat: Seat<L>,
     receipt: Receipt,
 ) -> LeftOf<L>
     ensures all { LeavesAll output.old output.new (over.Untold seat receipt) result }
     ensures seat { HangsUpSeat seat result }
-    ensures said { EndSaid K.not_opened K.ended (result_ok result.seat) result.end }
+    ensures said { Since front.new (λ h. EndSaid (K.says h) (result_ok result.seat) result.end) }
     ensures closes { ClosesBy (over.Untold seat receipt) output.old output.new result }
     ensures answers { output.new.answers ≡ output.old.answers }
+    ensures grows { Grows front.old front.new }
 {
     match output.flush() {
-        Ok(()) => left_by(hang_up(rt, kernel, seat, End::NoMemory), None),
+        Ok(()) => left_by(hang_up(rt, kernel, front, seat, End::NoMemory), None),
         Err(_) => {
             let end = End::WriteFault {
                 sent: output.sent(),
             };
-            left_by(hang_up(rt, kernel, seat, end), Some(receipt))
+            left_by(hang_up(rt, kernel, front, seat, end), Some(receipt))
         }
     }
 }
 
 /// Leaves a session that is over.
-pub(crate) fn leave_all<Rt: Wait, W: Write, G: Gate, L: Ledgers, K: Kernel<Seat<L>, SpentSeat<L>>>(
+pub(crate) fn leave_all<
+    Rt: Wait,
+    W: Write,
+    G: Gate,
+    L: Ledgers + OfHistory,
+    K: Kernel<Seat<L>, SpentSeat<L>, Front<L>>,
+>(
     rt: &Rt,
     output: &mut Output<W, G>,
     kernel: &K,
+    front: &mut Front<L>,
     over: OverOf<L>,
 ) -> LeftOf<L>
     ensures all { LeavesAll output.old output.new over result }
     ensures seat { KeepsSeat over result }
-    ensures said { OverSaid K.not_opened K.ended over → EndSaid K.not_opened K.ended (result_ok result.seat) result.end }
+    ensures said { Since front.new (λ h. OverSaid (K.says h) over → EndSaid (K.says h) (result_ok result.seat) result.end) }
     ensures closes { ClosesBy over output.old output.new result }
     ensures answers { output.new.answers ≡ output.old.answers }
+    ensures grows { Grows front.old front.new }
 {
     match over {
         Over::Leaves { stage, why } => {
             let end = send_last(output, why);
-            leave(rt, kernel, stage, end)
+            leave(rt, kernel, front, stage, end)
         }
         Over::Unwritten(stage) => {
             let failed = End::WriteFault {
                 sent: output.sent(),
             };
-            leave(rt, kernel, stage, failed)
+            leave(rt, kernel, front, stage, failed)
         }
-        Over::OpeningUntold(seat) => left_by(hang_up(rt, kernel, seat, End::NoMemory), None),
+        Over::OpeningUntold(seat) => left_by(hang_up(rt, kernel, front, seat, End::NoMemory), None),
         Over::RefusalUntold(seat) => left_by((seat, End::NoMemory), None),
-        Over::Untold { seat, receipt } => leave_untold(rt, output, kernel, seat, receipt),
+        Over::Untold { seat, receipt } => leave_untold(rt, output, kernel, front, seat, receipt),
         Over::Refused(seat) => {
             let end = send_last(output, LeaveCause::Closed);
             left_by((seat, end), None)

@@ -2,7 +2,9 @@
 
 ghost use Rattle.std.specs.Prelude.{◌≡◌, ◌∷◌, ◌++◌, ℕ, List, Option, Some, true, [], length};
 ghost use Rattle.rtrb.specs.Ring.{received, known_items, SameConsumer};
+ghost use Rattle.call_types.specs.declared.act.Record.{Record};
 ghost use Rattle.call_types.specs.declared.request.Request.{Request};
+ghost use Rattle.run_history.specs.Fronts.{Grows, Since};
 ghost use Rattle.session_core.specs.Proved.Losing.{IsToldOf, is_opening, ready_process};
 ghost use Rattle.session_core.specs.Proved.Shutting.{ShutIfLeft};
 ghost use Rattle.session_core.specs.Proved.Desk.{TurnStands, StandsBy, StandsOn, SendsOn, SentIfOn, SentIfReady, IsReady, LeftBy, EndsOn, attended_by};
@@ -23,6 +25,7 @@ use byte_ledger::ledgers::Ledgers;
 use call_types::request::Request;
 use record_book::seat::{Seat, SpentSeat};
 use rtrb::Consumer;
+use run_history::front::{Front, OfHistory};
 use std::io::Write;
 use std::marker::{Brand, Model, PhantomData};
 use std::sync::Wait;
@@ -54,21 +57,29 @@ pub(crate) struct Desk<
     D: Naming,
     W: Write + Connection,
     G: Gate,
-    L: Ledgers,
-    K: Kernel<Seat<L>, SpentSeat<L>>,
+    L: Ledgers + OfHistory,
+    K: Kernel<Seat<L>, SpentSeat<L>, Front<L>>,
 > {
     pub(crate) consumer: Consumer<Request>,
     pub(crate) output: Output<W, G>,
+    /// What is known of the history of the run.
+    pub(crate) front: Front<L>,
     /// It is taken away only while it changes.
     pub(crate) standing: Option<StandingOf<L>>,
     session: PhantomData<D>,
     kernel: PhantomData<K>,
 }
 
-impl<D: Naming, W: Write + Connection, G: Gate, L: Ledgers, K: Kernel<Seat<L>, SpentSeat<L>>> Model
-    for Desk<D, W, G, L, K> {
+impl<
+    D: Naming,
+    W: Write + Connection,
+    G: Gate,
+    L: Ledgers + OfHistory,
+    K: Kernel<Seat<L>, SpentSeat<L>, Front<L>>,
+> Model for Desk<D, W, G, L, K> {
     ghost use Rattle.rtrb.specs.Ring.{received};
     ghost use Rattle.session_core.specs.DeskState.{DeskState};
+    ghost use Rattle.run_history.specs.Fronts.{Since};
     ghost use Rattle.session_core.specs.Proved.Desk.{IsRingOf, StandsThere};
     ghost use Rattle.session_core.specs.Proved.Shutting.{ShutThere};
 
@@ -76,56 +87,80 @@ impl<D: Naming, W: Write + Connection, G: Gate, L: Ledgers, K: Kernel<Seat<L>, S
 
     ghost view = { λ d. record { ring = d.consumer; output_is = d.output; standing = d.standing } };
 
-    ghost invariant = { λ d. IsRingOf D.ring d.consumer × StandsThere K.not_opened K.refused K.ended D.base (received d.consumer) d.output d.standing × ShutThere W.was_shut d.output d.standing };
+    ghost invariant = { λ d. IsRingOf D.ring d.consumer × Since d.front (λ h. StandsThere (K.says h) D.base (received d.consumer) d.output d.standing) × ShutThere W.was_shut d.output d.standing };
 }
 
 /// Leaves a session that is over, and shuts its connection.
-fn leave<Rt: Wait, W: Write + Connection, G: Gate, L: Ledgers, K: Kernel<Seat<L>, SpentSeat<L>>>(
+fn leave<
+    Rt: Wait,
+    W: Write + Connection,
+    G: Gate,
+    L: Ledgers + OfHistory,
+    K: Kernel<Seat<L>, SpentSeat<L>, Front<L>>,
+>(
     rt: &Rt,
     output: &mut Output<W, G>,
     kernel: &K,
+    front: &mut Front<L>,
     over: OverOf<L>,
 ) -> LeftOf<L>
-    ensures left { (requests : List Request) → AreSaid (RefusalSaid K.not_opened K.refused K.ended requests) output.old.answers → OverSaid K.not_opened K.ended over → LeftBy K.not_opened K.refused K.ended requests output.old over output.new result }
+    ensures left { Since front.new (λ h. (requests : List Request) → AreSaid (RefusalSaid (K.says h) requests) output.old.answers → OverSaid (K.says h) over → LeftBy (K.says h) requests output.old over output.new result) }
     ensures shut { W.was_shut output.new.sink.contents }
+    ensures grows { Grows front.old front.new }
 {
-    let left = leave_all(rt, output, kernel, over);
+    let left = leave_all(rt, output, kernel, front, over);
     output.shut();
     left
 }
 
 /// Where a session stands after a turn. A session that is over is left now, unless its call was given up: how that one
 /// ends is known only when no more is read.
-fn stand<Rt: Wait, W: Write + Connection, G: Gate, L: Ledgers, K: Kernel<Seat<L>, SpentSeat<L>>>(
+fn stand<
+    Rt: Wait,
+    W: Write + Connection,
+    G: Gate,
+    L: Ledgers + OfHistory,
+    K: Kernel<Seat<L>, SpentSeat<L>, Front<L>>,
+>(
     rt: &Rt,
     output: &mut Output<W, G>,
     kernel: &K,
+    front: &mut Front<L>,
     turn: TurnOf<L>,
 ) -> StandingOf<L>
-    ensures stands { StandsBy K.not_opened K.refused K.ended output.old turn output.new result }
+    ensures stands { Since front.new (λ h. StandsBy (K.says h) output.old turn output.new result) }
     ensures sent { SentIfOn output.old turn → SentIfReady output.new result }
     ensures shut { ShutIfLeft W.was_shut output.new result }
+    ensures grows { Grows front.old front.new }
 {
     match turn {
         Turn::GoesOn(stage) => Standing::Ready(stage),
         Turn::Waits(seat) => Standing::Waits(seat),
         Turn::Lost(seat) => Standing::Lost(seat),
-        Turn::Over(over) => Standing::Left(leave(rt, output, kernel, over)),
+        Turn::Over(over) => Standing::Left(leave(rt, output, kernel, front, over)),
     }
 }
 
 /// Takes up what the ring holds, until it is empty, a call waits or the session is over.
-fn take_ring<Rt: Wait, W: Write, G: Gate, L: Ledgers, K: Kernel<Seat<L>, SpentSeat<L>>>(
+fn take_ring<
+    Rt: Wait,
+    W: Write,
+    G: Gate,
+    L: Ledgers + OfHistory,
+    K: Kernel<Seat<L>, SpentSeat<L>, Front<L>>,
+>(
     rt: &Rt,
     note: &Note,
     kernel: &K,
+    front: &mut Front<L>,
     consumer: &mut Consumer<Request>,
     output: &mut Output<W, G>,
     stage: StageOf<L>,
 ) -> TurnOf<L>
     ensures ring { SameConsumer consumer.old consumer.new }
-    ensures stands { (base : Option (List ℕ)) → IsReady (RefusalSaid K.not_opened K.refused K.ended) base (received consumer.old) output.old stage → TurnStands (RefusalSaid K.not_opened K.refused K.ended) base (received consumer.new) output.new result }
-    ensures said { TurnSaid K.not_opened K.ended result }
+    ensures stands { Since front.new (λ h. (base : Option (List ℕ)) → IsReady (RefusalSaid (K.says h)) base (received consumer.old) output.old stage → TurnStands (RefusalSaid (K.says h)) base (received consumer.new) output.new result) }
+    ensures said { Since front.new (λ h. TurnSaid (K.says h) result) }
+    ensures grows { Grows front.old front.new }
 {
     let mut stage = stage;
     for _ in rt.forever() {
@@ -133,7 +168,7 @@ fn take_ring<Rt: Wait, W: Write, G: Gate, L: Ledgers, K: Kernel<Seat<L>, SpentSe
             Ok(request) => request,
             Err(_) => return Turn::GoesOn(stage),
         };
-        match take_next(rt, note, output, kernel, stage, request) {
+        match take_next(rt, note, output, kernel, front, stage, request) {
             Turn::GoesOn(after) => stage = after,
             Turn::Waits(seat) => return Turn::Waits(seat),
             Turn::Lost(seat) => return Turn::Lost(seat),
@@ -148,24 +183,26 @@ pub(crate) fn take_ready<
     Rt: Wait,
     W: Write + Connection,
     G: Gate,
-    L: Ledgers,
-    K: Kernel<Seat<L>, SpentSeat<L>>,
+    L: Ledgers + OfHistory,
+    K: Kernel<Seat<L>, SpentSeat<L>, Front<L>>,
 >(
     rt: &Rt,
     note: &Note,
     kernel: &K,
+    front: &mut Front<L>,
     consumer: &mut Consumer<Request>,
     output: &mut Output<W, G>,
     standing: StandingOf<L>,
 ) -> StandingOf<L>
     ensures ring { SameConsumer consumer.old consumer.new }
-    ensures stands { StandsOn K.not_opened K.refused K.ended (received consumer.old) output.old standing (received consumer.new) output.new result }
+    ensures stands { Since front.new (λ h. StandsOn (K.says h) (received consumer.old) output.old standing (received consumer.new) output.new result) }
     ensures shut { ShutIfLeft W.was_shut output.old standing → ShutIfLeft W.was_shut output.new result }
+    ensures grows { Grows front.old front.new }
 {
     match standing {
         Standing::Ready(stage) => {
-            let turn = take_ring(rt, note, kernel, consumer, output, stage);
-            stand(rt, output, kernel, turn)
+            let turn = take_ring(rt, note, kernel, front, consumer, output, stage);
+            stand(rt, output, kernel, front, turn)
         }
         Standing::Waits(seat) => Standing::Waits(seat),
         Standing::Lost(seat) => Standing::Lost(seat),
@@ -174,12 +211,12 @@ pub(crate) fn take_ready<
 }
 
 /// Writes the answers of a session that goes on.
-fn write_out<W: Write, G: Gate, L: Ledgers, K: Kernel<Seat<L>, SpentSeat<L>>>(
+fn write_out<W: Write, G: Gate, L: Ledgers + OfHistory, K: Kernel<Seat<L>, SpentSeat<L>, Front<L>>>(
     output: &mut Output<W, G>,
     stage: StageOf<L>,
 ) -> TurnOf<L>
-    ensures stands { SendsOn K.not_opened K.refused K.ended output.old stage output.new result }
-    ensures said { TurnSaid K.not_opened K.ended result }
+    ensures stands { (h : List Record) → SendsOn (K.says h) output.old stage output.new result }
+    ensures said { (h : List Record) → TurnSaid (K.says h) result }
     ensures sent { SentIfOn output.new result }
 {
     match output.flush() {
@@ -193,17 +230,24 @@ pub(crate) fn send_ready<
     Rt: Wait,
     W: Write + Connection,
     G: Gate,
-    L: Ledgers,
-    K: Kernel<Seat<L>, SpentSeat<L>>,
->(rt: &Rt, kernel: &K, output: &mut Output<W, G>, standing: StandingOf<L>) -> StandingOf<L>
-    ensures stands { (taken : List Request) → StandsOn K.not_opened K.refused K.ended taken output.old standing taken output.new result }
+    L: Ledgers + OfHistory,
+    K: Kernel<Seat<L>, SpentSeat<L>, Front<L>>,
+>(
+    rt: &Rt,
+    kernel: &K,
+    front: &mut Front<L>,
+    output: &mut Output<W, G>,
+    standing: StandingOf<L>,
+) -> StandingOf<L>
+    ensures stands { Since front.new (λ h. (taken : List Request) → StandsOn (K.says h) taken output.old standing taken output.new result) }
     ensures sent { SentIfReady output.new result }
     ensures shut { ShutIfLeft W.was_shut output.old standing → ShutIfLeft W.was_shut output.new result }
+    ensures grows { Grows front.old front.new }
 {
     match standing {
         Standing::Ready(stage) => {
             let turn = write_out::<W, G, L, K>(output, stage);
-            stand(rt, output, kernel, turn)
+            stand(rt, output, kernel, front, turn)
         }
         Standing::Waits(seat) => Standing::Waits(seat),
         Standing::Lost(seat) => Standing::Lost(seat),
@@ -216,14 +260,21 @@ pub(crate) fn wait_on<
     Rt: Wait,
     W: Write + Connection,
     G: Gate,
-    L: Ledgers,
-    K: Kernel<Seat<L>, SpentSeat<L>>,
->(rt: &Rt, kernel: &K, output: &mut Output<W, G>, seat: Seat<L>) -> StandingOf<L>
-    ensures stands { (taken : List Request) → StandsOn K.not_opened K.refused K.ended taken output.old (standings.Waits seat) taken output.new result }
+    L: Ledgers + OfHistory,
+    K: Kernel<Seat<L>, SpentSeat<L>, Front<L>>,
+>(
+    rt: &Rt,
+    kernel: &K,
+    front: &mut Front<L>,
+    output: &mut Output<W, G>,
+    seat: Seat<L>,
+) -> StandingOf<L>
+    ensures stands { Since front.new (λ h. (taken : List Request) → StandsOn (K.says h) taken output.old (standings.Waits seat) taken output.new result) }
     ensures shut { ShutIfLeft W.was_shut output.new result }
+    ensures grows { Grows front.old front.new }
 {
-    let turn = wait_once(rt, output, kernel, seat);
-    stand(rt, output, kernel, turn)
+    let turn = wait_once(rt, output, kernel, front, seat);
+    stand(rt, output, kernel, front, turn)
 }
 
 /// Waits until a call goes on, where one waits.
@@ -231,14 +282,21 @@ fn wait_ready<
     Rt: Wait,
     W: Write + Connection,
     G: Gate,
-    L: Ledgers,
-    K: Kernel<Seat<L>, SpentSeat<L>>,
->(rt: &Rt, kernel: &K, output: &mut Output<W, G>, standing: StandingOf<L>) -> StandingOf<L>
-    ensures stands { (taken : List Request) → StandsOn K.not_opened K.refused K.ended taken output.old standing taken output.new result }
+    L: Ledgers + OfHistory,
+    K: Kernel<Seat<L>, SpentSeat<L>, Front<L>>,
+>(
+    rt: &Rt,
+    kernel: &K,
+    front: &mut Front<L>,
+    output: &mut Output<W, G>,
+    standing: StandingOf<L>,
+) -> StandingOf<L>
+    ensures stands { Since front.new (λ h. (taken : List Request) → StandsOn (K.says h) taken output.old standing taken output.new result) }
     ensures shut { ShutIfLeft W.was_shut output.old standing → ShutIfLeft W.was_shut output.new result }
+    ensures grows { Grows front.old front.new }
 {
     match standing {
-        Standing::Waits(seat) => wait_on(rt, kernel, output, seat),
+        Standing::Waits(seat) => wait_on(rt, kernel, front, output, seat),
         Standing::Ready(stage) => Standing::Ready(stage),
         Standing::Lost(seat) => Standing::Lost(seat),
         Standing::Left(left) => Standing::Left(left),
@@ -246,11 +304,11 @@ fn wait_ready<
 }
 
 /// Tells that the connection of a process is lost, if there is one. What it gives shows that this was told.
-pub(crate) fn tell_lost<Rt: Wait, L: Ledgers, K: Kernel<Seat<L>, SpentSeat<L>>>(
-    rt: &Rt,
-    kernel: &K,
-    process: Option<u32>,
-) -> Option<Marked>
+pub(crate) fn tell_lost<
+    Rt: Wait,
+    L: Ledgers + OfHistory,
+    K: Kernel<Seat<L>, SpentSeat<L>, Front<L>>,
+>(rt: &Rt, kernel: &K, process: Option<u32>) -> Option<Marked>
     ensures { IsToldOf K.marks process result }
 {
     match process {
@@ -287,23 +345,25 @@ fn take_late<
     Rt: Wait,
     W: Write + Connection,
     G: Gate,
-    L: Ledgers,
-    K: Kernel<Seat<L>, SpentSeat<L>>,
+    L: Ledgers + OfHistory,
+    K: Kernel<Seat<L>, SpentSeat<L>, Front<L>>,
 >(
     rt: &Rt,
     note: &Note,
     kernel: &K,
+    front: &mut Front<L>,
     output: &mut Output<W, G>,
     stage: StageOf<L>,
     request: Request,
 ) -> (StandingOf<L>, Option<Marked>)
-    ensures stands { (taken : List Request) → StandsOn K.not_opened K.refused K.ended taken output.old (standings.Ready stage) (taken ++ request ∷ []) output.new result.0 }
+    ensures stands { Since front.new (λ h. (taken : List Request) → StandsOn (K.says h) taken output.old (standings.Ready stage) (taken ++ request ∷ []) output.new result.0) }
     ensures shut { ShutIfLeft W.was_shut output.new result.0 }
     ensures told { is_opening stage ≡ true → IsToldOf K.marks (ready_process result.0) result.1 }
+    ensures grows { Grows front.old front.new }
 {
     let is_opening = is_opening(&stage);
-    let turn = take_next(rt, note, output, kernel, stage, request);
-    let standing = stand(rt, output, kernel, turn);
+    let turn = take_next(rt, note, output, kernel, front, stage, request);
+    let standing = stand(rt, output, kernel, front, turn);
     let opened = if is_opening {
         ready_process(&standing)
     } else {
@@ -319,12 +379,13 @@ pub(crate) fn leave_requests<
     Rt: Wait,
     W: Write + Connection,
     G: Gate,
-    L: Ledgers,
-    K: Kernel<Seat<L>, SpentSeat<L>>,
+    L: Ledgers + OfHistory,
+    K: Kernel<Seat<L>, SpentSeat<L>, Front<L>>,
 >(
     rt: &Rt,
     note: &Note,
     kernel: &K,
+    front: &mut Front<L>,
     consumer: &mut Consumer<Request>,
     output: &mut Output<W, G>,
     standing: StandingOf<L>,
@@ -333,8 +394,9 @@ pub(crate) fn leave_requests<
 ) -> LeftOf<L>
     requires count { length (known_items consumer.old) ≡ count }
     requires reading { IsReadingEnd why }
-    ensures ends { EndsOn K.not_opened K.refused K.ended (received consumer.old) (known_items consumer.old) why output.old standing output.new result }
+    ensures ends { Since front.new (λ h. EndsOn (K.says h) (received consumer.old) (known_items consumer.old) why output.old standing output.new result) }
     ensures shut { ShutIfLeft W.was_shut output.old standing → W.was_shut output.new.sink.contents }
+    ensures grows { Grows front.old front.new }
 {
     let mut standing = standing;
     let mut count = count;
@@ -342,21 +404,28 @@ pub(crate) fn leave_requests<
         standing = match standing {
             Standing::Ready(stage) => {
                 if count == 0 {
-                    return leave(rt, output, kernel, Over::Leaves { stage, why });
+                    return leave(rt, output, kernel, front, Over::Leaves { stage, why });
                 }
                 count -= 1;
                 let (after, _told) = take_late(
                     rt,
                     note,
                     kernel,
+                    front,
                     output,
                     stage,
                     consumer.pop_known(),
                 );
                 after
             }
-            Standing::Waits(seat) => wait_on(rt, kernel, output, seat),
-            Standing::Lost(seat) => return leave(rt, output, kernel, Over::Lost { seat, why }),
+            Standing::Waits(seat) => wait_on(rt, kernel, front, output, seat),
+            Standing::Lost(seat) => return leave(
+                rt,
+                output,
+                kernel,
+                front,
+                Over::Lost { seat, why },
+            ),
             Standing::Left(left) => return left,
         };
     }
@@ -395,13 +464,13 @@ fn put_back<L: Ledgers>(place: &mut Option<StandingOf<L>>, standing: StandingOf<
     attended
 }
 
-impl<D: Naming, W: Write + Connection, G: Gate, L: Ledgers, K: Kernel<Seat<L>, SpentSeat<L>>> Desk<
-    D,
-    W,
-    G,
-    L,
-    K,
-> {
+impl<
+    D: Naming,
+    W: Write + Connection,
+    G: Gate,
+    L: Ledgers + OfHistory,
+    K: Kernel<Seat<L>, SpentSeat<L>, Front<L>>,
+> Desk<D, W, G, L, K> {
     ghost use Rattle.std.specs.Prelude.{◌≡◌, [], Some};
     ghost use Rattle.rtrb.specs.Ring.{received};
     ghost use Rattle.session_core.specs.Proved.Output.{fresh_output};
@@ -410,6 +479,7 @@ impl<D: Naming, W: Write + Connection, G: Gate, L: Ledgers, K: Kernel<Seat<L>, S
     pub(crate) fn new(
         consumer: Consumer<Request>,
         output: Output<W, G>,
+        front: Front<L>,
         admission: AdmissionTo<L>,
     ) -> Self
         requires ring { D.ring ≡ Some consumer }
@@ -419,6 +489,7 @@ impl<D: Naming, W: Write + Connection, G: Gate, L: Ledgers, K: Kernel<Seat<L>, S
         Desk {
             consumer,
             output,
+            front,
             standing: Some(Standing::Ready(Stage::Opening(admission))),
             session: PhantomData,
             kernel: PhantomData,
@@ -434,6 +505,7 @@ impl<D: Naming, W: Write + Connection, G: Gate, L: Ledgers, K: Kernel<Seat<L>, S
             rt,
             note,
             kernel,
+            &mut self.front,
             &mut self.consumer,
             &mut self.output,
             standing,
@@ -452,11 +524,12 @@ impl<D: Naming, W: Write + Connection, G: Gate, L: Ledgers, K: Kernel<Seat<L>, S
             rt,
             note,
             kernel,
+            &mut self.front,
             &mut self.consumer,
             &mut self.output,
             standing,
         );
-        let standing = send_ready(rt, kernel, &mut self.output, standing);
+        let standing = send_ready(rt, kernel, &mut self.front, &mut self.output, standing);
         put_back(&mut self.standing, standing)
     }
 
@@ -465,7 +538,7 @@ impl<D: Naming, W: Write + Connection, G: Gate, L: Ledgers, K: Kernel<Seat<L>, S
         let Some(standing) = self.standing.take() else {
             unreachable!()
         };
-        let standing = wait_ready(rt, kernel, &mut self.output, standing);
+        let standing = wait_ready(rt, kernel, &mut self.front, &mut self.output, standing);
         put_back(&mut self.standing, standing);
     }
 }

@@ -3,6 +3,7 @@
 ghost use Rattle.std.specs.Prelude.{◌≡◌, ℕ, List, Option, Some, []};
 ghost use Rattle.std.specs.Option.{option_map};
 ghost use Rattle.rtrb.specs.Ring.{sent, received, producer_capacity, IsPair};
+ghost use Rattle.run_history.specs.Fronts.{Since};
 ghost use Rattle.session_core.specs.Proved.Desk.{IsNamedPair};
 ghost use Rattle.session_core.specs.Proved.Settling.{Settles, unserved_by, why_of};
 ghost use Rattle.session_core.specs.Proved.Output.{fresh_output};
@@ -30,6 +31,7 @@ use request_pump::bell::RingCount;
 use request_pump::inlet::PushLog;
 use request_pump::pumped::PumpEnd;
 use rtrb::{Consumer, Producer, RingBuffer};
+use run_history::front::{Front, OfHistory};
 use std::alloc::{AllocError, Global};
 use std::io::{Read, Write};
 use std::marker::{Brand, Model};
@@ -70,15 +72,15 @@ impl<R: Read, W: Write, L: Ledgers> Model for Served<R, W, L> {
 /// until the session ends for one of the reasons of `End`; then its process is hung up and its connection shut. A thread of its own
 /// reads, so that the end of the connection is noticed while a call of the process waits: such a call is given up. The gate knows the
 /// session by its number. The admission is for its one opening. The session is without a thread just where the starter could not start
-/// it, and has counted that.
+/// it, and has counted that. What is known of the run's history goes on from the front that is given, and is handed back.
 pub fn serve<
     Rt: Threads + Wait + Copy + Drop + Send + Sync + 'static,
     T: Starter,
     R: Read + Send + Drop + 'static,
     W: Write + Connection + Send + Drop + 'static,
     G: Gate + Send + 'static,
-    L: Ledgers + Send + Sync + 'static,
-    K: Kernel<Seat<L>, SpentSeat<L>> + Send + Sync + Drop + 'static,
+    L: Ledgers + OfHistory + Send + Sync + 'static,
+    K: Kernel<Seat<L>, SpentSeat<L>, Front<L>> + Send + Sync + Drop + 'static,
 >(
     rt: Rt,
     alloc: Global,
@@ -86,30 +88,33 @@ pub fn serve<
     reader: R,
     writer: W,
     kernel: Arc<K>,
+    front: Front<L>,
     admission: AdmissionTo<L>,
     session: u64,
     gate: G,
-) -> Served<R, W, L>
-    ensures serves { ServesUnder K.not_opened K.refused K.ended G.is_open (R.remaining reader) (W.contents writer) result }
-    ensures said { EndSaid K.not_opened K.ended result.seat result.end_is }
-    ensures given_up { CutSaid K.ended result.seat result.answers result.end_is }
-    ensures starts { T.failures starter.new ≡ failures_after result.end_is (T.failures starter.old) }
-    ensures shut { W.was_shut result.writer.contents }
+) -> (Served<R, W, L>, Front<L>)
+    ensures serves { Since result.1 (λ h. ServesUnder (K.says h) G.is_open (R.remaining reader) (W.contents writer) result.0) }
+    ensures said { Since result.1 (λ h. EndSaid (K.says h) result.0.seat result.0.end_is) }
+    ensures given_up { Since result.1 (λ h. CutSaid (K.says h).ended result.0.seat result.0.answers result.0.end_is) }
+    ensures starts { T.failures starter.new ≡ failures_after result.0.end_is (T.failures starter.old) }
+    ensures shut { W.was_shut result.0.writer.contents }
 {
     let (producer, consumer) = match RingBuffer::new(alloc, REQUESTS_AHEAD) {
         Ok(ends) => ends,
         Err(_) => {
             let writer = LoggedWriter::new(writer);
-            return unserved(alloc, Some(reader), writer, admission, End::NoMemory);
+            let served = unserved(alloc, Some(reader), writer, admission, End::NoMemory);
+            return (served, front);
         }
     };
     match Output::new(alloc, writer, session, gate) {
         Ok(output) => serve_named::<Rt, T, R, Brand, W, G, L, K>(
-            rt, alloc, starter, reader, output, kernel, admission, producer, consumer,
+            rt, alloc, starter, reader, output, kernel, front, admission, producer, consumer,
         ),
         Err(writer) => {
             let writer = LoggedWriter::new(writer);
-            unserved(alloc, Some(reader), writer, admission, End::NoMemory)
+            let served = unserved(alloc, Some(reader), writer, admission, End::NoMemory);
+            (served, front)
         }
     }
 }
@@ -122,8 +127,8 @@ fn serve_named<
     D: Naming + Send + Sync + 'static,
     W: Write + Connection + Send + Drop + 'static,
     G: Gate + Send + 'static,
-    L: Ledgers + Send + Sync + 'static,
-    K: Kernel<Seat<L>, SpentSeat<L>> + Send + Sync + Drop + 'static,
+    L: Ledgers + OfHistory + Send + Sync + 'static,
+    K: Kernel<Seat<L>, SpentSeat<L>, Front<L>> + Send + Sync + Drop + 'static,
 >(
     rt: Rt,
     alloc: Global,
@@ -131,26 +136,31 @@ fn serve_named<
     reader: R,
     output: Output<W, G>,
     kernel: Arc<K>,
+    front: Front<L>,
     admission: AdmissionTo<L>,
     producer: Producer<Request>,
     consumer: Consumer<Request>,
-) -> Served<R, W, L>
+) -> (Served<R, W, L>, Front<L>)
     requires ring { D.ring ≡ Some consumer }
     requires base { output ≡ fresh_output D.base }
     requires pair { IsPair producer consumer }
     requires fresh { (received consumer ≡ []) × (sent producer ≡ []) }
     requires room { producer_capacity producer ≡ REQUESTS_AHEAD }
-    ensures serves { ServesUnder K.not_opened K.refused K.ended G.is_open (R.remaining reader) D.base result }
-    ensures said { EndSaid K.not_opened K.ended result.seat result.end_is }
-    ensures given_up { CutSaid K.ended result.seat result.answers result.end_is }
-    ensures starts { T.failures starter.new ≡ failures_after result.end_is (T.failures starter.old) }
-    ensures shut { W.was_shut result.writer.contents }
+    ensures serves { Since result.1 (λ h. ServesUnder (K.says h) G.is_open (R.remaining reader) D.base result.0) }
+    ensures said { Since result.1 (λ h. EndSaid (K.says h) result.0.seat result.0.end_is) }
+    ensures given_up { Since result.1 (λ h. CutSaid (K.says h).ended result.0.seat result.0.answers result.0.end_is) }
+    ensures starts { T.failures starter.new ≡ failures_after result.0.end_is (T.failures starter.old) }
+    ensures shut { W.was_shut result.0.writer.contents }
 {
     match shared_twice::<Rt, D, W, G, L, K>(rt, alloc, kernel) {
         Ok((shared, helper)) => serve_shared(
-            rt, alloc, starter, reader, output, &*shared, helper, admission, producer, consumer,
+            rt, alloc, starter, reader, output, &*shared, helper, front, admission, producer,
+            consumer,
         ),
-        Err(_) => unstarted(alloc, Some(reader), output, admission, End::NoMemory),
+        Err(_) => {
+            let served = unstarted(alloc, Some(reader), output, admission, End::NoMemory);
+            (served, front)
+        }
     }
 }
 
@@ -162,8 +172,8 @@ fn serve_shared<
     D: Naming + Send + Sync + 'static,
     W: Write + Connection + Send + Drop + 'static,
     G: Gate + Send + 'static,
-    L: Ledgers + Send + Sync + 'static,
-    K: Kernel<Seat<L>, SpentSeat<L>> + Send + Sync + Drop + 'static,
+    L: Ledgers + OfHistory + Send + Sync + 'static,
+    K: Kernel<Seat<L>, SpentSeat<L>, Front<L>> + Send + Sync + Drop + 'static,
 >(
     rt: Rt,
     alloc: Global,
@@ -172,31 +182,35 @@ fn serve_shared<
     output: Output<W, G>,
     shared: &Shared<D, W, G, L, K>,
     helper: Helper<Rt, D, W, G, L, K>,
+    front: Front<L>,
     admission: AdmissionTo<L>,
     producer: Producer<Request>,
     consumer: Consumer<Request>,
-) -> Served<R, W, L>
+) -> (Served<R, W, L>, Front<L>)
     requires ring { D.ring ≡ Some consumer }
     requires base { output ≡ fresh_output D.base }
     requires pair { IsPair producer consumer }
     requires fresh { (received consumer ≡ []) × (sent producer ≡ []) }
     requires room { producer_capacity producer ≡ REQUESTS_AHEAD }
-    ensures serves { ServesUnder K.not_opened K.refused K.ended G.is_open (R.remaining reader) D.base result }
-    ensures said { EndSaid K.not_opened K.ended result.seat result.end_is }
-    ensures given_up { CutSaid K.ended result.seat result.answers result.end_is }
-    ensures starts { T.failures starter.new ≡ failures_after result.end_is (T.failures starter.old) }
-    ensures shut { W.was_shut result.writer.contents }
+    ensures serves { Since result.1 (λ h. ServesUnder (K.says h) G.is_open (R.remaining reader) D.base result.0) }
+    ensures said { Since result.1 (λ h. EndSaid (K.says h) result.0.seat result.0.end_is) }
+    ensures given_up { Since result.1 (λ h. CutSaid (K.says h).ended result.0.seat result.0.answers result.0.end_is) }
+    ensures starts { T.failures starter.new ≡ failures_after result.0.end_is (T.failures starter.old) }
+    ensures shut { W.was_shut result.0.writer.contents }
 {
     // the thread that reads finds the desk locked until it is there
     let mut place = shared.desk.lock(&rt);
     match start_reading(&rt, alloc, starter, reader, producer, helper) {
         Ok(thread) => {
-            drop(place.replace(Desk::new(consumer, output, admission)));
+            drop(place.replace(Desk::new(consumer, output, front, admission)));
             drop(place);
             shared.answer_waits(&rt);
             leave_rest(&rt, shared, thread.join(&rt))
         }
-        Err(_) => unstarted(alloc, None, output, admission, End::NoThread),
+        Err(_) => {
+            let served = unstarted(alloc, None, output, admission, End::NoThread);
+            (served, front)
+        }
     }
 }
 
@@ -206,8 +220,8 @@ fn shared_twice<
     D: Naming,
     W: Write + Connection + Drop,
     G: Gate,
-    L: Ledgers,
-    K: Kernel<Seat<L>, SpentSeat<L>> + Drop,
+    L: Ledgers + OfHistory,
+    K: Kernel<Seat<L>, SpentSeat<L>, Front<L>> + Drop,
 >(
     rt: Rt,
     alloc: Global,
@@ -244,12 +258,12 @@ fn leave_rest<
     D: Naming,
     W: Write + Connection + Drop,
     G: Gate,
-    L: Ledgers,
-    K: Kernel<Seat<L>, SpentSeat<L>>,
->(rt: &Rt, shared: &Shared<D, W, G, L, K>, pushed: Pushed<R>) -> Served<R, W, L>
+    L: Ledgers + OfHistory,
+    K: Kernel<Seat<L>, SpentSeat<L>, Front<L>>,
+>(rt: &Rt, shared: &Shared<D, W, G, L, K>, pushed: Pushed<R>) -> (Served<R, W, L>, Front<L>)
     requires { IsNamedPair D.ring pushed.producer }
-    ensures settles { Settles K.not_opened K.refused K.ended G.is_open D.base pushed result }
-    ensures shut { W.was_shut result.writer.contents }
+    ensures settles { Since result.1 (λ h. Settles (K.says h) G.is_open D.base pushed result.0) }
+    ensures shut { W.was_shut result.0.writer.contents }
 {
     let Pushed {
         end,
@@ -261,6 +275,7 @@ fn leave_rest<
     let Desk {
         mut consumer,
         mut output,
+        mut front,
         standing,
         ..
     } = shared.take_desk(rt);
@@ -273,6 +288,7 @@ fn leave_rest<
         rt,
         &shared.note,
         &*shared.kernel,
+        &mut front,
         &mut consumer,
         &mut output,
         standing,
@@ -280,14 +296,15 @@ fn leave_rest<
         why_of(end),
     );
     let (answers, writer) = output.into_parts(left.last);
-    Served {
+    let served = Served {
         seat: left.seat,
         answers,
         end: left.end,
         reader: Some(reader),
         writer,
         pushes,
-    }
+    };
+    (served, front)
 }
 
 /// A session that has read nothing.

@@ -19,6 +19,7 @@ use request_pump::inlet::PushLog;
 use request_pump::pump::pump;
 use request_pump::pumped::{PumpEnd, Pumped};
 use rtrb::Producer;
+use run_history::front::{Front, OfHistory};
 use std::alloc::Global;
 use std::io::{Read, Write};
 use std::marker::Model;
@@ -40,7 +41,7 @@ impl ReadingTold {
     ghost use Rattle.session_core.specs.Proved.Losing.{IsToldOf};
 
     /// Shows it by the kernel's mark of the process, if there is one.
-    fn by<L: Ledgers, K: Kernel<Seat<L>, SpentSeat<L>>>(
+    fn by<L: Ledgers + OfHistory, K: Kernel<Seat<L>, SpentSeat<L>, Front<L>>>(
         process: KnownProcess,
         mark: Option<Marked>,
     ) -> Self
@@ -57,8 +58,8 @@ pub(crate) struct Shared<
     D: Naming,
     W: Write + Connection,
     G: Gate,
-    L: Ledgers,
-    K: Kernel<Seat<L>, SpentSeat<L>>,
+    L: Ledgers + OfHistory,
+    K: Kernel<Seat<L>, SpentSeat<L>, Front<L>>,
 > {
     pub(crate) desk: Mutex<Option<Desk<D, W, G, L, K>>>,
     pub(crate) note: Note,
@@ -69,8 +70,8 @@ impl<
     D: Naming,
     W: Write + Connection + Drop,
     G: Gate,
-    L: Ledgers,
-    K: Kernel<Seat<L>, SpentSeat<L>>,
+    L: Ledgers + OfHistory,
+    K: Kernel<Seat<L>, SpentSeat<L>, Front<L>>,
 > Shared<D, W, G, L, K> {
     /// What they share before the first is read.
     pub(crate) fn new(kernel: Arc<K>) -> Self {
@@ -166,8 +167,8 @@ pub(crate) struct Helper<
     D: Naming,
     W: Write + Connection + Drop,
     G: Gate,
-    L: Ledgers,
-    K: Kernel<Seat<L>, SpentSeat<L>> + Drop,
+    L: Ledgers + OfHistory,
+    K: Kernel<Seat<L>, SpentSeat<L>, Front<L>> + Drop,
 > {
     pub(crate) rt: Rt,
     pub(crate) shared: Arc<Shared<D, W, G, L, K>>,
@@ -180,8 +181,8 @@ impl<
     D: Naming,
     W: Write + Connection + Drop,
     G: Gate,
-    L: Ledgers,
-    K: Kernel<Seat<L>, SpentSeat<L>> + Drop,
+    L: Ledgers + OfHistory,
+    K: Kernel<Seat<L>, SpentSeat<L>, Front<L>> + Drop,
 > Bell for Helper<Rt, D, W, G, L, K> {
     ghost rings = { λ h. h.rings };
 
@@ -201,8 +202,8 @@ impl<
     D: Naming,
     W: Write + Connection + Drop,
     G: Gate,
-    L: Ledgers,
-    K: Kernel<Seat<L>, SpentSeat<L>> + Drop,
+    L: Ledgers + OfHistory,
+    K: Kernel<Seat<L>, SpentSeat<L>, Front<L>> + Drop,
 > Attendant for Helper<Rt, D, W, G, L, K> {
     fn end_reading(&self) -> ReadingTold {
         self.shared.end_reading(&self.rt)

@@ -2,6 +2,7 @@
 
 ghost use Rattle.std.specs.Prelude.{◌≡◌, ◌∷◌, [], OnOk, OnErr};
 ghost use Rattle.call_types.specs.declared.request.Request.TheVariants as request;
+ghost use Rattle.run_history.specs.Fronts.{Grows, Since};
 ghost use Rattle.session_core.specs.declared.stage.Stage.TheVariants as stage;
 ghost use Rattle.session_core.specs.Proved.Turns.{TakesUp, PutsFirst, PutsGivenUp, IsOne, WaitsOnce, GivesUp, TellsWhy, TurnSays, WaitSays, goes_on};
 ghost use Rattle.system_lock.specs.Kernel.{AsksForASeat, IsWanting, IsWhyFinished, FinishesBy, SaysEnded};
@@ -19,6 +20,7 @@ use call_types::refusal::Refusal;
 use call_types::request::Request;
 use record_book::opening::Opened;
 use record_book::seat::{Receipt, Seat, SpentSeat};
+use run_history::front::{Front, OfHistory};
 use std::alloc::AllocError;
 use std::io::Write;
 use std::sync::Wait;
@@ -53,20 +55,28 @@ fn put_given_up<W: Write, G: Gate>(output: &mut Output<W, G>, refusal: Refusal) 
 }
 
 /// Takes up the first request of a session. A process that is opened is noted at once.
-fn take_opening<Rt: Wait, W: Write, G: Gate, L: Ledgers, K: Kernel<Seat<L>, SpentSeat<L>>>(
+fn take_opening<
+    Rt: Wait,
+    W: Write,
+    G: Gate,
+    L: Ledgers + OfHistory,
+    K: Kernel<Seat<L>, SpentSeat<L>, Front<L>>,
+>(
     rt: &Rt,
     note: &Note,
     output: &mut Output<W, G>,
     kernel: &K,
+    front: &mut Front<L>,
     admission: AdmissionTo<L>,
     request: Request,
 ) -> TurnOf<L>
     requires { AsksForASeat request }
     ensures takes { TakesUp (stage.Opening admission) request output.old output.new result }
-    ensures said { TurnSaid K.not_opened K.ended result }
-    ensures refusals { TurnSays (RefusalSaid K.not_opened K.refused K.ended) (stage.Opening admission) (request ∷ []) output.old output.new }
+    ensures said { Since front.new (λ h. TurnSaid (K.says h) result) }
+    ensures refusals { Since front.new (λ h. TurnSays (RefusalSaid (K.says h)) (stage.Opening admission) (request ∷ []) output.old output.new) }
+    ensures grows { Grows front.old front.new }
 {
-    match kernel.open(rt, admission, request) {
+    match kernel.open(rt, front, admission, request) {
         Ok(Opened::Seated(seat)) => {
             note.opened(rt, seat.pid());
             match put_first(output, seat.receipts()) {
@@ -126,36 +136,40 @@ fn end_given_up<W: Write, G: Gate, L: Ledgers>(
 }
 
 /// Waits until a call goes on. All answers so far have been written.
-fn finish_sent<Rt: Wait, W: Write, G: Gate, L: Ledgers, K: Kernel<Seat<L>, SpentSeat<L>>>(
-    rt: &Rt,
-    output: &Output<W, G>,
-    kernel: &K,
-    seat: Seat<L>,
-) -> FinishedIn<L>
+fn finish_sent<
+    Rt: Wait,
+    W: Write,
+    G: Gate,
+    L: Ledgers + OfHistory,
+    K: Kernel<Seat<L>, SpentSeat<L>, Front<L>>,
+>(rt: &Rt, output: &Output<W, G>, kernel: &K, front: &mut Front<L>, seat: Seat<L>) -> FinishedIn<L>
     requires { output.now.unsent ≡ [] }
     ensures finishes { FinishesBy seat result }
-    ensures ended { SaysEnded K.ended seat result }
+    ensures ended { Since front.new (λ h. SaysEnded (K.says h).ended seat result) }
+    ensures grows { Grows front.old front.new }
 {
     let _output = output;
-    kernel.finish(rt, seat)
+    kernel.finish(rt, front, seat)
 }
 
 /// Writes all answers, waits until a call goes on, and answers what came of that.
-pub(crate) fn wait_once<Rt: Wait, W: Write, G: Gate, L: Ledgers, K: Kernel<Seat<L>, SpentSeat<L>>>(
-    rt: &Rt,
-    output: &mut Output<W, G>,
-    kernel: &K,
-    seat: Seat<L>,
-) -> TurnOf<L>
+pub(crate) fn wait_once<
+    Rt: Wait,
+    W: Write,
+    G: Gate,
+    L: Ledgers + OfHistory,
+    K: Kernel<Seat<L>, SpentSeat<L>, Front<L>>,
+>(rt: &Rt, output: &mut Output<W, G>, kernel: &K, front: &mut Front<L>, seat: Seat<L>) -> TurnOf<L>
     ensures waits { WaitsOnce seat output.old output.new result }
-    ensures said { TurnSaid K.not_opened K.ended result }
-    ensures refusals { WaitSays (RefusalSaid K.not_opened K.refused K.ended) seat output.old output.new }
+    ensures said { Since front.new (λ h. TurnSaid (K.says h) result) }
+    ensures refusals { Since front.new (λ h. WaitSays (RefusalSaid (K.says h)) seat output.old output.new) }
+    ensures grows { Grows front.old front.new }
 {
     match output.flush() {
         Ok(()) => {}
         Err(_) => return Turn::Over(Over::Unwritten(Stage::Ready(seat))),
     }
-    let (seat, receipt) = match finish_sent(rt, output, kernel, seat) {
+    let (seat, receipt) = match finish_sent(rt, output, kernel, front, seat) {
         Finished::Resumed { seat, receipt } => (seat, receipt),
         Finished::Ended(ended) => return end_given_up(output, ended),
     };
@@ -168,19 +182,27 @@ pub(crate) fn wait_once<Rt: Wait, W: Write, G: Gate, L: Ledgers, K: Kernel<Seat<
 }
 
 /// Takes up a call of the session's process. It waits for no other process.
-fn take_call<Rt: Wait, W: Write, G: Gate, L: Ledgers, K: Kernel<Seat<L>, SpentSeat<L>>>(
+fn take_call<
+    Rt: Wait,
+    W: Write,
+    G: Gate,
+    L: Ledgers + OfHistory,
+    K: Kernel<Seat<L>, SpentSeat<L>, Front<L>>,
+>(
     rt: &Rt,
     output: &mut Output<W, G>,
     kernel: &K,
+    front: &mut Front<L>,
     seat: Seat<L>,
     call: Call,
 ) -> TurnOf<L>
     ensures takes { TakesUp (stage.Ready seat) (request.Call call) output.old output.new result }
-    ensures said { TurnSaid K.not_opened K.ended result }
-    ensures refusals { TurnSays (RefusalSaid K.not_opened K.refused K.ended) (stage.Ready seat) (request.Call call ∷ []) output.old output.new }
+    ensures said { Since front.new (λ h. TurnSaid (K.says h) result) }
+    ensures refusals { Since front.new (λ h. TurnSays (RefusalSaid (K.says h)) (stage.Ready seat) (request.Call call ∷ []) output.old output.new) }
+    ensures grows { Grows front.old front.new }
 {
     let mut seat = seat;
-    let receipt = match kernel.call(rt, &mut seat, call) {
+    let receipt = match kernel.call(rt, front, &mut seat, call) {
         Ok(receipt) => receipt,
         Err(refusal) => {
             return match output.put_refused(refusal) {
@@ -201,31 +223,42 @@ fn take_call<Rt: Wait, W: Write, G: Gate, L: Ledgers, K: Kernel<Seat<L>, SpentSe
 }
 
 /// Takes up a request at this stage of a session.
-fn take_up<Rt: Wait, W: Write, G: Gate, L: Ledgers, K: Kernel<Seat<L>, SpentSeat<L>>>(
+fn take_up<
+    Rt: Wait,
+    W: Write,
+    G: Gate,
+    L: Ledgers + OfHistory,
+    K: Kernel<Seat<L>, SpentSeat<L>, Front<L>>,
+>(
     rt: &Rt,
     note: &Note,
     output: &mut Output<W, G>,
     kernel: &K,
+    front: &mut Front<L>,
     stage: StageOf<L>,
     request: Request,
 ) -> TurnOf<L>
     ensures takes { TakesUp stage request output.old output.new result }
-    ensures said { TurnSaid K.not_opened K.ended result }
-    ensures refusals { TurnSays (RefusalSaid K.not_opened K.refused K.ended) stage (request ∷ []) output.old output.new }
+    ensures said { Since front.new (λ h. TurnSaid (K.says h) result) }
+    ensures refusals { Since front.new (λ h. TurnSays (RefusalSaid (K.says h)) stage (request ∷ []) output.old output.new) }
+    ensures grows { Grows front.old front.new }
 {
     match (stage, request) {
         (Stage::Opening(admission), Request::Join) => {
-            take_opening(rt, note, output, kernel, admission, Request::Join)
+            take_opening(rt, note, output, kernel, front, admission, Request::Join)
         }
         (Stage::Opening(admission), Request::Attach { process }) => take_opening(
             rt,
             note,
             output,
             kernel,
+            front,
             admission,
             Request::Attach { process },
         ),
-        (Stage::Ready(seat), Request::Call(call)) => take_call(rt, output, kernel, seat, call),
+        (Stage::Ready(seat), Request::Call(call)) => take_call(
+            rt, output, kernel, front, seat, call,
+        ),
         (stage, _) => Turn::Over(Over::Leaves {
             stage,
             why: LeaveCause::Malformed,
@@ -234,20 +267,28 @@ fn take_up<Rt: Wait, W: Write, G: Gate, L: Ledgers, K: Kernel<Seat<L>, SpentSeat
 }
 
 /// Takes up a request at this stage of a session. What was gathered is written first, if it is much.
-pub(crate) fn take_next<Rt: Wait, W: Write, G: Gate, L: Ledgers, K: Kernel<Seat<L>, SpentSeat<L>>>(
+pub(crate) fn take_next<
+    Rt: Wait,
+    W: Write,
+    G: Gate,
+    L: Ledgers + OfHistory,
+    K: Kernel<Seat<L>, SpentSeat<L>, Front<L>>,
+>(
     rt: &Rt,
     note: &Note,
     output: &mut Output<W, G>,
     kernel: &K,
+    front: &mut Front<L>,
     stage: StageOf<L>,
     request: Request,
 ) -> TurnOf<L>
     ensures takes { TakesUp stage request output.old output.new result }
-    ensures said { TurnSaid K.not_opened K.ended result }
-    ensures refusals { TurnSays (RefusalSaid K.not_opened K.refused K.ended) stage (request ∷ []) output.old output.new }
+    ensures said { Since front.new (λ h. TurnSaid (K.says h) result) }
+    ensures refusals { Since front.new (λ h. TurnSays (RefusalSaid (K.says h)) stage (request ∷ []) output.old output.new) }
+    ensures grows { Grows front.old front.new }
 {
     match output.flush_much() {
-        Ok(()) => take_up(rt, note, output, kernel, stage, request),
+        Ok(()) => take_up(rt, note, output, kernel, front, stage, request),
         Err(_) => Turn::Over(Over::Unwritten(stage)),
     }
 }

@@ -16,6 +16,7 @@ mod trial_fault;
 
 use byte_ledger::ledgers::Blanks;
 use job::job_of;
+use run_history::front::Begun;
 use std::io;
 use std::io::{ErrorKind, Read, Write};
 use std::marker::Brand;
@@ -52,7 +53,7 @@ fn run<R: Threads + Wait + Copy + Drop + Send + Sync + 'static>(
     let words = words_of(rt)?;
     let job = job_of(rt.alloc(), words.as_slice())?;
     let input = read_input(rt)?;
-    let lines = tried::<R, Brand>(waiting, rt.alloc(), job, input, Blanks::new())?;
+    let lines = tried::<R, Brand>(waiting, rt.alloc(), job, input, Blanks::new(), Begun::new())?;
     let mut out = io::writer(rt);
     if out.write_all(lines.as_slice()).is_err() || out.flush().is_err() {
         return Err(TrialFault::CannotWrite);

@@ -1,6 +1,7 @@
 //! A kernel that does not know its seats any more.
 
 ghost use Rattle.std.specs.Prelude.{◌≡◌, ⊤, IfErr};
+ghost use Rattle.run_history.specs.Fronts.{Grows, Since};
 ghost use Rattle.system_lock.specs.Kernel.{FinishesBy, HangsUpBy, AsksForASeat, OpensAs, SaysEnded, itself};
 
 use byte_ledger::ledgers::Ledgers;
@@ -13,7 +14,7 @@ use record_book::seat::{Receipt, Seat, SpentSeat};
 use std::sync::Wait;
 use system_lock::doors::Marked;
 use system_lock::kernel::{
-    AdmissionTo, Ended, EndedIn, Finished, FinishedIn, Kernel, NotOpenedIn, Why,
+    AdmissionTo, AsFront, Ended, EndedIn, Finished, FinishedIn, Kernel, NotOpenedIn, Why,
 };
 use system_lock::one_book::OneBook;
 
@@ -62,55 +63,62 @@ fn foreign<L: Ledgers>(seat: Seat<L>) -> EndedIn<L>
     }
 }
 
-impl<L: Ledgers> Kernel<Seat<L>, SpentSeat<L>> for Stranger<L> {
+impl<L: Ledgers, F: AsFront> Kernel<Seat<L>, SpentSeat<L>, F> for Stranger<L> {
     ghost use Rattle.std.specs.Prelude.{⊤};
+    ghost use Rattle.system_lock.specs.Kernel.{anything};
 
-    ghost not_opened = { λ _ _. ⊤ };
-
-    ghost refused = { λ _ _ _. ⊤ };
-
-    ghost ended = { λ _ _. ⊤ };
+    ghost says = { λ _. anything };
 
     ghost marks = { λ _ _. ⊤ };
 
     fn open<R: Wait>(
         &self,
         rt: &R,
+        front: &mut F,
         admission: AdmissionTo<L>,
         request: Request,
     ) -> Result<OpenedIn<L>, NotOpenedIn<L>>
         requires { AsksForASeat request }
         ensures opens { OpensAs itself itself request result }
-        ensures refused { IfErr result (λ _. ⊤) }
+        ensures grows { Grows (F.as_front front.old) (F.as_front front.new) }
+        ensures refused { Since (F.as_front front.new) (λ h. IfErr result (λ _. ⊤)) }
     {
-        self.book.open(rt, admission, request)
+        self.book.open(rt, front, admission, request)
     }
 
-    fn call<R: Wait>(&self, rt: &R, seat: &mut Seat<L>, call: Call) -> Result<Receipt, Refusal> {
-        self.book.call(rt, seat, call)
+    fn call<R: Wait>(
+        &self,
+        rt: &R,
+        front: &mut F,
+        seat: &mut Seat<L>,
+        call: Call,
+    ) -> Result<Receipt, Refusal> {
+        self.book.call(rt, front, seat, call)
     }
 
-    fn finish<R: Wait>(&self, rt: &R, seat: Seat<L>) -> FinishedIn<L>
+    fn finish<R: Wait>(&self, rt: &R, front: &mut F, seat: Seat<L>) -> FinishedIn<L>
         ensures finishes { FinishesBy seat result }
-        ensures ended { SaysEnded (λ _ _. ⊤) seat result }
+        ensures grows { Grows (F.as_front front.old) (F.as_front front.new) }
+        ensures ended { Since (F.as_front front.new) (λ h. SaysEnded (λ _ _. ⊤) seat result) }
     {
         match self.forgets {
             Forgets::WhoWaits => Finished::Ended(foreign(seat)),
-            _ => self.book.finish(rt, seat),
+            _ => self.book.finish(rt, front, seat),
         }
     }
 
-    fn hang_up<R: Wait>(&self, rt: &R, seat: Seat<L>) -> EndedIn<L>
+    fn hang_up<R: Wait>(&self, rt: &R, front: &mut F, seat: Seat<L>) -> EndedIn<L>
         ensures hangs_up { HangsUpBy seat result }
-        ensures ended { ⊤ }
+        ensures grows { Grows (F.as_front front.old) (F.as_front front.new) }
+        ensures ended { Since (F.as_front front.new) (λ h. ⊤) }
     {
         match self.forgets {
             Forgets::All => foreign(seat),
-            _ => self.book.hang_up(rt, seat),
+            _ => self.book.hang_up(rt, front, seat),
         }
     }
 
-    fn lost<R: Wait>(&self, rt: &R, process: u32) -> Marked {
-        self.book.lost(rt, process)
+    fn lost<R: Wait>(&self, _rt: &R, process: u32) -> Marked {
+        Marked::needless(process)
     }
 }

@@ -13,6 +13,7 @@ use call_types::limits::Limits;
 use logged_streams::reader::LoggedReader;
 use record_book::book::Book;
 use record_book::seat::SpentSeat;
+use run_history::front::{Begun, OfHistory};
 use script_text::lines::{write_record, write_totals};
 use session_core::end::End;
 use session_core::gate::OpenGate;
@@ -134,23 +135,33 @@ fn shared_kernel<L: Ledgers + Send + Sync + 'static>(
 /// The lines of what comes of a session, counted by these ledgers.
 pub(crate) fn tried<
     Rt: Threads + Wait + Copy + Drop + Send + Sync + 'static,
-    L: Ledgers + Send + Sync + 'static,
->(rt: Rt, alloc: Global, job: Job, input: Vec<u8>, blanks: Blanks) -> Result<Vec<u8>, TrialFault>
-    requires { blanks ≡ L.names }
+    L: Ledgers + OfHistory + Send + Sync + 'static,
+>(
+    rt: Rt,
+    alloc: Global,
+    job: Job,
+    input: Vec<u8>,
+    blanks: Blanks,
+    begun: Begun,
+) -> Result<Vec<u8>, TrialFault>
+    requires ledgers { blanks ≡ L.names }
+    requires history { begun.seen.book ≡ L.book }
 {
     let kernel = shared_kernel::<L>(alloc, job.limits, job.forgets, job.acts, blanks)?;
     let shared = Arc::try_clone(&kernel)?;
     let reader = MemoryReader::new(input, job.reads);
     let writer = MemoryWriter::new(alloc, job.writes);
     let admission = kernel.admit();
+    let (_history, front) = begun.named::<L>();
     let mut threads = SystemThreads::new();
-    let served = serve(
+    let (served, _known) = serve(
         rt,
         alloc,
         &mut threads,
         reader,
         writer,
         shared,
+        front,
         admission,
         0,
         OpenGate,

@@ -1,6 +1,7 @@
 pub mod KernelLaws
 pub mod OpeningLaws
 pub mod SaysLaws
+pub mod GrowLaws
 pub mod StirLaws
 pub mod OwnLaws
 pub mod OwnCalls

@@ -1,5 +1,5 @@
 -- What the calls of a kernel give (own).
-use Rattle.std.specs.Prelude.{◌≡◌, ℕ, ◌≤◌, Result, Ok, Err}
+use Rattle.std.specs.Prelude.{◌≡◌, ℕ, ◌≤◌, ⊤, Result, Ok, Err}
 use Rattle.call_types.specs.declared.act.Act.{Act}
 use Rattle.call_types.specs.declared.act.Act.TheVariants as act
 use Rattle.call_types.specs.declared.call.Call.{Call}
@@ -74,6 +74,17 @@ abbrev pub IsWanting : Refusal → Type 0
 IsWanting refusal.NoMemory = Unit {0}
 IsWanting refusal.RunFull = Unit {0}
 IsWanting other = ⊥
+
+-- what a kernel says where it records nothing: that it refused an opening so, that it refused a call of a seat so, and that the process
+-- of a seat has ended so
+pub record Says : Type 1 where
+  pub not_opened : Request → Refusal → Type 0
+  pub refused : SeatState → Call → Refusal → Type 0
+  pub ended : SeatState → Why → Type 0
+
+-- what a kernel says of which nothing more is known: anything
+abbrev pub anything : Says
+anything = record { not_opened = λ request told. ⊤; refused = λ seat call told. ⊤; ended = λ seat reason. ⊤ }
 
 -- an opening is recorded: with a seat, where it is no error; else with the one receipt of that error
 abbrev pub IsOpenedAs : {S P : Type 0} → (S → SeatState) → (P → SeatState) → Request → OpenedOf S P → Type 0

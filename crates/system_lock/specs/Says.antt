@@ -1,5 +1,7 @@
 -- What the lock of a run says of ends and of refusals (own).
-use Rattle.std.specs.Prelude.{◌≡◌, true, false, is_some, [], Option, None, Some}
+use Rattle.std.specs.Prelude.{◌≡◌, true, false, is_some, List, [], Option, None, Some}
+use mathlib.Core.List.{IsPrefix}
+use Rattle.call_types.specs.declared.act.Record.{Record}
 use Rattle.call_types.specs.declared.call.Call.{Call}
 use Rattle.call_types.specs.declared.limits.Limits.{Limits}
 use Rattle.call_types.specs.declared.refusal.Refusal.{Refusal}
@@ -12,6 +14,7 @@ use Rattle.record_book.specs.Seat.{SeatState}
 use Rattle.record_book.specs.Book.{BookState}
 use Rattle.record_book.specs.Counting.{counted_in}
 use Rattle.record_book.specs.Refusals.{is_ready_in, IsDue, join_refusal, attach_refusal, start_refusal, exit_refusal, resume_refusal}
+use Rattle.system_lock.specs.Kernel.{Says}
 use Rattle.system_lock.specs.declared.kernel.Why.{Why}
 use Rattle.system_lock.specs.declared.kernel.Why.TheVariants as why
 
@@ -41,14 +44,19 @@ IsEndIn b s why.NoMemory = (resume_refusal b s ≡ None) × (is_ready_in b s.pid
 IsEndIn b s why.HungUp = exit_refusal b s ≡ None
 IsEndIn b s why.Lost = (resume_refusal b s ≡ None) × (is_ready_in b s.pid ≡ false)
 
--- an opening is refused: that is due in some book that may stand under the lock of a run with these limits
-abbrev pub IsNotOpened : Option Limits → Request → Refusal → Type 0
-IsNotOpened limits request told = (b : BookState) × StandsUnder limits b × IsNotOpenedIn b request told
+-- an opening is refused: that is due in some book that may stand under the lock of a run with these limits and this history, by one of its
+-- fronts
+abbrev pub IsNotOpened : Option Limits → List Record → Request → Refusal → Type 0
+IsNotOpened limits h request told = (b : BookState) × StandsUnder limits b × IsPrefix b.history h × IsNotOpenedIn b request told
 
 -- a call is refused: that is due in some such book, which may have given the seat
-abbrev pub IsRefused : Option Limits → SeatState → Call → Refusal → Type 0
-IsRefused limits s call told = (b : BookState) × MayHaveGiven limits s b × IsDue (start_refusal b s call) told
+abbrev pub IsRefused : Option Limits → List Record → SeatState → Call → Refusal → Type 0
+IsRefused limits h s call told = (b : BookState) × MayHaveGiven limits s b × IsPrefix b.history h × IsDue (start_refusal b s call) told
 
 -- a process ends: for a reason that it may have in some such book
-abbrev pub IsEnded : Option Limits → SeatState → Why → Type 0
-IsEnded limits s reason = (b : BookState) × MayHaveGiven limits s b × IsEndIn b s reason
+abbrev pub IsEnded : Option Limits → List Record → SeatState → Why → Type 0
+IsEnded limits h s reason = (b : BookState) × MayHaveGiven limits s b × IsPrefix b.history h × IsEndIn b s reason
+
+-- what the lock of a run with these limits and this history says
+abbrev pub said_under : Option Limits → List Record → Says
+said_under limits h = record { not_opened = IsNotOpened limits h; refused = IsRefused limits h; ended = IsEnded limits h }

@@ -6,6 +6,7 @@ use call_types::refusal::Refusal;
 use call_types::request::Request;
 use record_book::opening::Opened;
 use record_book::seat::{AsSeat, Receipt, Seat, SpentSeat};
+use run_history::front::{Front, OfHistory};
 use std::marker::{Model, PhantomData};
 use std::sync::Wait;
 
@@ -66,26 +67,32 @@ pub enum Finished<S, P> {
     Ended(Ended<P>),
 }
 
+/// Types that hold the first records of a history, as far as somebody knows them. By this the contracts of kernels see what their callers
+/// know.
+pub trait AsFront {
+    ghost use Rattle.std.specs.Prelude.{List};
+    ghost use Rattle.call_types.specs.declared.act.Record.{Record};
+
+    ghost as_front: { Self → List Record };
+}
+
+impl<H: OfHistory> AsFront for Front<H> {
+    ghost as_front = { λ f. f };
+}
+
 /// Records the acts of processes in one book, for any thread. No contract here promises that a call returns. A seat is
-/// of the kind `S`, a spent one of the kind `P`; their types name the ledgers of the book.
-pub trait Kernel<S: AsSeat, P: AsSeat> {
-    ghost use Rattle.std.specs.Prelude.{ℕ, IfErr};
-    ghost use Rattle.call_types.specs.declared.call.Call.{Call};
-    ghost use Rattle.call_types.specs.declared.refusal.Refusal.{Refusal};
-    ghost use Rattle.call_types.specs.declared.request.Request.{Request};
-    ghost use Rattle.record_book.specs.Seat.{SeatState};
-    ghost use Rattle.system_lock.specs.declared.kernel.Why.{Why};
-    ghost use Rattle.system_lock.specs.Kernel.{AsksForASeat, OpensAs, CallsBy, FinishesAs, HangsUpAs, SaysEnded};
+/// of the kind `S`, a spent one of the kind `P`; their types name the ledgers of the book. What the caller knows of the book's history, a
+/// front of the kind `F`, goes on with each call.
+pub trait Kernel<S: AsSeat, P: AsSeat, F: AsFront> {
+    ghost use Rattle.std.specs.Prelude.{ℕ, List, IfErr};
+    ghost use Rattle.run_history.specs.Fronts.{Grows, Since};
+    ghost use Rattle.call_types.specs.declared.act.Record.{Record};
+    ghost use Rattle.system_lock.specs.Kernel.{Says, AsksForASeat, OpensAs, CallsBy, FinishesAs, HangsUpAs, SaysEnded};
     ghost use Rattle.system_lock.specs.System.{MarkState};
 
-    // The kernel refused this opening so, and did not record it. Where the kernel is not known, only `open` tells this.
-    ghost not_opened: { Request → Refusal → Type 0 };
-
-    // The kernel refused this call of the seat so, and did not record it. Only `call` tells this.
-    ghost refused: { SeatState → Call → Refusal → Type 0 };
-
-    // The process of this seat has ended so. Only `finish` and `hang_up` tell this.
-    ghost ended: { SeatState → Why → Type 0 };
+    // What the kernel says where it records nothing, in a run whose history has these records at first. Where the kernel is not known, only
+    // `open` tells that an opening was refused, only `call` that a call was, and only `finish` and `hang_up` that a process has ended.
+    ghost says: { List Record → Says };
 
     // This shows that the connection of this process was told to be lost.
     ghost marks: { MarkState → ℕ → Type 0 };
@@ -96,29 +103,40 @@ pub trait Kernel<S: AsSeat, P: AsSeat> {
     fn open<R: Wait>(
         &self,
         rt: &R,
+        front: &mut F,
         admission: Admission<S>,
         request: Request,
     ) -> Result<Opened<S, P>, NotOpened<Admission<S>>>
         requires { AsksForASeat request }
         ensures opens { OpensAs S.as_seat P.as_seat request result }
-        ensures refused { IfErr result (λ back. not_opened request back.refusal) };
+        ensures grows { Grows (F.as_front front.old) (F.as_front front.new) }
+        ensures refused { Since (F.as_front front.new) (λ h. IfErr result (λ back. (says h).not_opened request back.refusal)) };
 
     /// Records a call of the seat's process: its reply, or that it waits. The seat gets the receipt too. A `Refusal` is not
     /// recorded, and leaves the seat as it was. It waits for the lock alone, and never for another process's call.
-    fn call<R: Wait>(&self, rt: &R, seat: &mut S, call: Call) -> Result<Receipt, Refusal>
+    fn call<R: Wait>(
+        &self,
+        rt: &R,
+        front: &mut F,
+        seat: &mut S,
+        call: Call,
+    ) -> Result<Receipt, Refusal>
         ensures calls { CallsBy (S.as_seat seat.old) (S.as_seat seat.new) call result }
-        ensures refused { IfErr result (λ refusal. refused (S.as_seat seat.old) call refusal) };
+        ensures grows { Grows (F.as_front front.old) (F.as_front front.new) }
+        ensures refused { Since (F.as_front front.new) (λ h. IfErr result (λ refusal. (says h).refused (S.as_seat seat.old) call refusal)) };
 
     /// Waits until the call that the seat's process waits in can go on, and takes it up; or ends the process. Where `lost` tells that
     /// its connection is lost, a call that is not ready is waited for no longer: the process ends for `Why::Lost`.
-    fn finish<R: Wait>(&self, rt: &R, seat: S) -> Finished<S, P>
+    fn finish<R: Wait>(&self, rt: &R, front: &mut F, seat: S) -> Finished<S, P>
         ensures finishes { FinishesAs S.as_seat P.as_seat (S.as_seat seat) result }
-        ensures ended { SaysEnded ended (S.as_seat seat) result };
+        ensures grows { Grows (F.as_front front.old) (F.as_front front.new) }
+        ensures ended { Since (F.as_front front.new) (λ h. SaysEnded (says h).ended (S.as_seat seat) result) };
 
     /// Records the exit of the seat's process. It waits for the lock alone.
-    fn hang_up<R: Wait>(&self, rt: &R, seat: S) -> Ended<P>
+    fn hang_up<R: Wait>(&self, rt: &R, front: &mut F, seat: S) -> Ended<P>
         ensures hangs_up { HangsUpAs P.as_seat (S.as_seat seat) result }
-        ensures ended { ended (S.as_seat seat) result.why };
+        ensures grows { Grows (F.as_front front.old) (F.as_front front.new) }
+        ensures ended { Since (F.as_front front.new) (λ h. (says h).ended (S.as_seat seat) result.why) };
 
     /// Tells that the connection of a process is lost: a call that it waits in, now or later, is given up where it is not ready. Nothing
     /// is recorded here. It takes no memory, and waits for the lock alone. What it gives shows that this was told.

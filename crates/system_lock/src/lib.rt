@@ -8,6 +8,7 @@ pub mod kernel;
 pub mod lock;
 mod lost;
 pub mod one_book;
+mod past;
 mod sleepers;
 mod stirred;
 pub mod system;

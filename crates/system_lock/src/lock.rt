@@ -1,6 +1,7 @@
 //! The kernel of a run: one lock round a book, the processes that sleep, and those whose connections are lost.
 
 ghost use Rattle.std.specs.Prelude.{◌≡◌, [], Some, IfErr, IfOk};
+ghost use Rattle.run_history.specs.Fronts.{Grows, Since};
 ghost use Rattle.rtrb.specs.Ring.{received};
 ghost use Rattle.system_lock.specs.Kernel.{FinishesBy, HangsUpBy, AsksForASeat, OpensAs, SaysEnded, itself};
 ghost use Rattle.system_lock.specs.Says.{IsEnded, IsNotOpened};
@@ -19,6 +20,7 @@ use call_types::refusal::Refusal;
 use call_types::request::Request;
 use record_book::opening::OpenedIn;
 use record_book::seat::{Receipt, Seat, SpentSeat};
+use run_history::front::{Begun, Front, OfHistory};
 use std::alloc::{AllocError, Global};
 use std::sync::{Mutex, Wait};
 use trace_ring::trace_ring::TraceEnd;
@@ -27,26 +29,28 @@ use trace_ring::trace_ring::TraceEnd;
 /// whose call is not ready sleeps until an event makes it ready, or until its connection is lost: then its call is tried once more, and
 /// the process ends where it is still not ready. Its type names the ledgers and the limits of its book, so another book does not fit.
 #[derive(Drop)]
-pub struct SystemLock<L: Ledgers> {
+pub struct SystemLock<L: Ledgers + OfHistory> {
     alloc: Global,
     system: Mutex<System<L>>,
     bells: Bells,
 }
 
-impl<L: Ledgers> SystemLock<L> {
+impl<L: Ledgers + OfHistory> SystemLock<L> {
     /// The kernel of a run that has no records yet, under the limits that its type names, and the end at which the trace of its
     /// records is read. Nothing was read from it yet.
     pub fn new(
         alloc: Global,
         limits: Limits,
         blanks: Blanks,
+        begun: Begun,
     ) -> Result<(Self, TraceEnd), AllocError>
         requires ledgers { blanks ≡ L.names }
+        requires history { begun.seen.book ≡ L.book }
         requires limits { L.limits ≡ Some limits }
         ensures { IfOk result (λ pair. received pair.1 ≡ []) }
     {
         let bells = Bells::new(alloc)?;
-        let (system, trace) = System::new(alloc, limits, blanks)?;
+        let (system, trace) = System::new(alloc, limits, blanks, begun)?;
         let lock = SystemLock {
             alloc,
             system: Mutex::new(system),
@@ -60,56 +64,72 @@ impl<L: Ledgers> SystemLock<L> {
         Admission::new()
     }
 
+    /// The records so far, as a front of the run's history.
+    pub fn front<R: Wait>(&self, rt: &R) -> Front<L> {
+        self.system.lock(rt).front().again()
+    }
+
     /// What stood under the lock. It takes no memory.
     pub fn take(self) -> System<L> {
         self.system.into_inner()
     }
 }
 
-impl<L: Ledgers> Kernel<Seat<L>, SpentSeat<L>> for SystemLock<L> {
+impl<L: Ledgers + OfHistory> Kernel<Seat<L>, SpentSeat<L>, Front<L>> for SystemLock<L> {
     ghost use Rattle.std.specs.Prelude.{◌≡◌};
-    ghost use Rattle.system_lock.specs.Says.{IsNotOpened, IsRefused, IsEnded};
+    ghost use Rattle.system_lock.specs.Says.{said_under};
     ghost use Rattle.system_lock.specs.System.{marked_at_doors};
 
-    ghost not_opened = { IsNotOpened L.limits };
-
-    ghost refused = { IsRefused L.limits };
-
-    ghost ended = { IsEnded L.limits };
+    ghost says = { said_under L.limits };
 
     ghost marks = { λ mark process. mark ≡ marked_at_doors process };
 
     fn open<R: Wait>(
         &self,
         rt: &R,
+        front: &mut Front<L>,
         admission: AdmissionTo<L>,
         request: Request,
     ) -> Result<OpenedIn<L>, NotOpenedIn<L>>
         requires { AsksForASeat request }
         ensures opens { OpensAs itself itself request result }
-        ensures refused { IfErr result (λ back. IsNotOpened L.limits request back.refusal) }
+        ensures grows { Grows front.old front.new }
+        ensures refused { Since front.new (λ h. IfErr result (λ back. IsNotOpened L.limits h request back.refusal)) }
     {
         let mut system = self.system.lock(rt);
-        match system.open(self.alloc, &self.bells, request) {
+        let opened = system.open(rt, self.alloc, &self.bells, request);
+        front.catch_up(system.front());
+        match opened {
             Ok(opened) => Ok(opened),
             Err(refusal) => Err(NotOpened { admission, refusal }),
         }
     }
 
-    fn call<R: Wait>(&self, rt: &R, seat: &mut Seat<L>, call: Call) -> Result<Receipt, Refusal> {
+    fn call<R: Wait>(
+        &self,
+        rt: &R,
+        front: &mut Front<L>,
+        seat: &mut Seat<L>,
+        call: Call,
+    ) -> Result<Receipt, Refusal> {
         let mut system = self.system.lock(rt);
-        system.call(self.alloc, &self.bells, seat, call)
+        let told = system.call(rt, self.alloc, &self.bells, seat, call);
+        front.catch_up(system.front());
+        told
     }
 
-    fn finish<R: Wait>(&self, rt: &R, seat: Seat<L>) -> FinishedIn<L>
+    fn finish<R: Wait>(&self, rt: &R, front: &mut Front<L>, seat: Seat<L>) -> FinishedIn<L>
         ensures finishes { FinishesBy seat result }
-        ensures ended { SaysEnded (IsEnded L.limits) seat result }
+        ensures grows { Grows front.old front.new }
+        ensures ended { Since front.new (λ h. SaysEnded (IsEnded L.limits h) seat result) }
     {
         let process = seat.pid();
         let mut seat = seat;
         let mut system = self.system.lock(rt);
         for _ in rt.forever() {
-            seat = match system.take_up(self.alloc, &self.bells, seat) {
+            let tried = system.take_up(rt, self.alloc, &self.bells, seat);
+            front.catch_up(system.front());
+            seat = match tried {
                 Tried::Resumed { seat, receipt } => return Finished::Resumed { seat, receipt },
                 Tried::Ended(ended) => return Finished::Ended(ended),
                 Tried::Still(seat) => seat,
@@ -120,12 +140,15 @@ impl<L: Ledgers> Kernel<Seat<L>, SpentSeat<L>> for SystemLock<L> {
         unreachable!()
     }
 
-    fn hang_up<R: Wait>(&self, rt: &R, seat: Seat<L>) -> EndedIn<L>
+    fn hang_up<R: Wait>(&self, rt: &R, front: &mut Front<L>, seat: Seat<L>) -> EndedIn<L>
         ensures hangs_up { HangsUpBy seat result }
-        ensures ended { IsEnded L.limits seat result.why }
+        ensures grows { Grows front.old front.new }
+        ensures ended { Since front.new (λ h. IsEnded L.limits h seat result.why) }
     {
         let mut system = self.system.lock(rt);
-        system.hang_up(&self.bells, seat)
+        let ended = system.hang_up(rt, &self.bells, seat);
+        front.catch_up(system.front());
+        ended
     }
 
     fn lost<R: Wait>(&self, rt: &R, process: u32) -> Marked {

@@ -1,13 +1,15 @@
 //! A kernel for one thread, for tests. Where a call would wait, prepared acts of other processes are run first.
 
 ghost use Rattle.std.specs.Prelude.{⊤, IfErr};
+ghost use Rattle.run_history.specs.Fronts.{Grows, Since};
 ghost use Rattle.system_lock.specs.Kernel.{FinishesBy, HangsUpBy, AsksForASeat, OpensAs, SaysEnded, itself};
 
 use crate::acts;
 use crate::acts::Tried;
 use crate::doors::Marked;
 use crate::kernel::{
-    Admission, AdmissionTo, EndedIn, Finished, FinishedIn, Kernel, NotOpened, NotOpenedIn, Why,
+    Admission, AdmissionTo, AsFront, EndedIn, Finished, FinishedIn, Kernel, NotOpened, NotOpenedIn,
+    Why,
 };
 use byte_ledger::ledgers::Ledgers;
 use byte_ledger::tallies::Sums;
@@ -75,26 +77,25 @@ impl<L: Ledgers> OneBook<L> {
     }
 }
 
-impl<L: Ledgers> Kernel<Seat<L>, SpentSeat<L>> for OneBook<L> {
+impl<L: Ledgers, F: AsFront> Kernel<Seat<L>, SpentSeat<L>, F> for OneBook<L> {
     ghost use Rattle.std.specs.Prelude.{⊤};
+    ghost use Rattle.system_lock.specs.Kernel.{anything};
 
-    ghost not_opened = { λ _ _. ⊤ };
-
-    ghost refused = { λ _ _ _. ⊤ };
-
-    ghost ended = { λ _ _. ⊤ };
+    ghost says = { λ _. anything };
 
     ghost marks = { λ _ _. ⊤ };
 
     fn open<R: Wait>(
         &self,
         rt: &R,
+        _front: &mut F,
         admission: AdmissionTo<L>,
         request: Request,
     ) -> Result<OpenedIn<L>, NotOpenedIn<L>>
         requires { AsksForASeat request }
         ensures opens { OpensAs itself itself request result }
-        ensures refused { IfErr result (λ _. ⊤) }
+        ensures grows { Grows (F.as_front _front.old) (F.as_front _front.new) }
+        ensures refused { Since (F.as_front _front.new) (λ h. IfErr result (λ _. ⊤)) }
     {
         let mut held = self.held.lock(rt);
         match acts::open(&mut held.book, self.alloc, request) {
@@ -103,22 +104,30 @@ impl<L: Ledgers> Kernel<Seat<L>, SpentSeat<L>> for OneBook<L> {
         }
     }
 
-    fn call<R: Wait>(&self, rt: &R, seat: &mut Seat<L>, call: Call) -> Result<Receipt, Refusal> {
+    fn call<R: Wait>(
+        &self,
+        rt: &R,
+        _front: &mut F,
+        seat: &mut Seat<L>,
+        call: Call,
+    ) -> Result<Receipt, Refusal> {
         let mut held = self.held.lock(rt);
         acts::call(&mut held.book, self.alloc, seat, call)
     }
 
-    fn finish<R: Wait>(&self, rt: &R, seat: Seat<L>) -> FinishedIn<L>
+    fn finish<R: Wait>(&self, rt: &R, _front: &mut F, seat: Seat<L>) -> FinishedIn<L>
         ensures finishes { FinishesBy seat result }
-        ensures ended { SaysEnded (λ _ _. ⊤) seat result }
+        ensures grows { Grows (F.as_front _front.old) (F.as_front _front.new) }
+        ensures ended { Since (F.as_front _front.new) (λ h. SaysEnded (λ _ _. ⊤) seat result) }
     {
         let mut held = self.held.lock(rt);
         finish(&mut held, self.alloc, seat)
     }
 
-    fn hang_up<R: Wait>(&self, rt: &R, seat: Seat<L>) -> EndedIn<L>
+    fn hang_up<R: Wait>(&self, rt: &R, _front: &mut F, seat: Seat<L>) -> EndedIn<L>
         ensures hangs_up { HangsUpBy seat result }
-        ensures ended { ⊤ }
+        ensures grows { Grows (F.as_front _front.old) (F.as_front _front.new) }
+        ensures ended { Since (F.as_front _front.new) (λ h. ⊤) }
     {
         let mut held = self.held.lock(rt);
         acts::exit(&mut held.book, seat, Why::HungUp)

@@ -5,7 +5,12 @@ ghost use Rattle.rtrb.specs.Ring.{received};
 ghost use Rattle.byte_ledger.specs.Counted.{IsPartOf};
 ghost use Rattle.record_book.specs.Counting.{counted_in};
 ghost use Rattle.record_book.specs.Refusals.{resume_refusal, is_ready_in};
-ghost use Rattle.system_lock.specs.Kernel.{AsksForASeat, CallsBy, HangsUpBy};
+ghost use Rattle.call_types.specs.declared.call.Call.{Call};
+ghost use Rattle.call_types.specs.declared.request.Request.{Request};
+ghost use Rattle.record_book.specs.Seat.{SeatState};
+ghost use Rattle.run_history.specs.Fronts.{Grows};
+ghost use Rattle.record_book.specs.Book.{BookState};
+ghost use Rattle.system_lock.specs.Kernel.{AsksForASeat, CallsBy, EndsBy, HangsUpBy};
 ghost use Rattle.system_lock.specs.Proved.Reasons.{OpensBy, IsReason, EndsByReason};
 ghost use Rattle.system_lock.specs.Proved.Acts.{TriesBy};
 ghost use Rattle.system_lock.specs.Says.{StandsUnder};
@@ -20,6 +25,7 @@ use crate::acts::{Tried, TriedIn};
 use crate::bells::Bells;
 use crate::doors::{Doors, Marked};
 use crate::kernel::{EndedIn, Why};
+use crate::past::Past;
 use crate::stirred::{Stirred, events_spare, opener, pipe_waited};
 use byte_ledger::ledgers::{Blanks, Ledgers};
 use call_types::call::Call;
@@ -28,22 +34,26 @@ use call_types::refusal::Refusal;
 use call_types::request::Request;
 use posix_model::laws::reserve_was_kept;
 use record_book::book::Book;
-use record_book::opening::OpenedIn;
+use record_book::opening::{Opened, OpenedIn};
 use record_book::seat::{Receipt, Seat};
+use run_history::front::{Begun, Front, OfHistory};
 use std::alloc::{AllocError, Global};
 use std::marker::Model;
+use std::sync::Wait;
 use trace_ring::trace_ring::TraceEnd;
 
-/// A book, which has the limits that its type names, whose house has no receipt, and from which the end of the trace was taken; the
-/// processes that sleep until the call that they wait in is ready; and those whose connections are lost. No process that sleeps is ready
-/// or lost or has ended, and the pipe of each is known. Those that are lost are live, and no two of them are the same.
+/// A book, which has the limits that its type names, whose house has no receipt, and from which the end of the trace was taken; its
+/// records, as the history has them that its type names; the processes that sleep until the call that they wait in is ready; and those
+/// whose connections are lost. No process that sleeps is ready or lost or has ended, and the pipe of each is known. Those that are lost
+/// are live, and no two of them are the same.
 #[derive(Drop)]
-pub struct System<L: Ledgers> {
+pub struct System<L: Ledgers + OfHistory> {
     book: Book<L>,
+    past: Past<L>,
     doors: Doors,
 }
 
-impl<L: Ledgers> Model for System<L> {
+impl<L: Ledgers + OfHistory> Model for System<L> {
     ghost use Rattle.std.specs.Prelude.{◌≡◌, [], Some, true};
     ghost use Rattle.system_lock.specs.System.{SystemState};
     ghost use Rattle.system_lock.specs.Proved.Doors.{DoorsSound};
@@ -52,17 +62,62 @@ impl<L: Ledgers> Model for System<L> {
 
     ghost view = { λ s. record { book_is = s.book; asleep_are = s.doors.sleepers.asleep.items; lost_are = s.doors.lost.processes.items } };
 
-    ghost invariant = { λ s. DoorsSound s.book s.doors × (L.limits ≡ Some s.book.limits) × (s.book.house ≡ Some []) × (s.book.is_traced ≡ true) };
+    ghost invariant = { λ s. DoorsSound s.book s.doors × (L.limits ≡ Some s.book.limits) × (s.book.house ≡ Some []) × (s.book.is_traced ≡ true) × (s.past ≡ s.book.history) };
 }
 
-impl<L: Ledgers> System<L> {
+/// Adds the record of an opening to those before it, if there is one.
+fn add_opening<Rt: Wait, L: Ledgers + OfHistory>(
+    rt: &Rt,
+    past: &mut Past<L>,
+    opened: &Result<OpenedIn<L>, Refusal>,
+)
+    requires { (request : Request) × OpensBy request opened.now }
+    ensures { (old new : BookState) (request : Request) → OpensIn old new request opened.now → past.old ≡ old.history → past.new ≡ new.history }
+{
+    match opened {
+        Ok(Opened::Seated(seat)) => past.add(rt, seat.receipts()[0].record()),
+        Ok(Opened::Refused(seat)) => past.add(rt, seat.receipts()[0].record()),
+        Err(_) => {}
+    }
+}
+
+/// Adds the record of a call to those before it, if there is one.
+fn add_call<Rt: Wait, L: Ledgers + OfHistory>(
+    rt: &Rt,
+    past: &mut Past<L>,
+    told: &Result<Receipt, Refusal>,
+)
+    ensures { (old new : BookState) (s t : SeatState) (call : Call) → CallsIn old new s t call told.now → past.old ≡ old.history → past.new ≡ new.history }
+{
+    if let Ok(receipt) = told {
+        past.add(rt, receipt.record());
+    }
+}
+
+/// Adds the record of an exit to those before it, if there is one.
+fn add_exit<Rt: Wait, L: Ledgers + OfHistory>(rt: &Rt, past: &mut Past<L>, ended: &EndedIn<L>)
+    requires { (old : SeatState) × EndsBy old ended.now.seat ended.now.why }
+    ensures { (old new : BookState) (s : SeatState) → ExitsIn old new s ended.now.seat ended.now.why → past.old ≡ old.history → past.new ≡ new.history }
+{
+    if let Why::Foreign = ended.why {
+        return;
+    }
+    match ended.seat.receipts().last() {
+        Some(receipt) => past.add(rt, receipt.record()),
+        None => unreachable!(),
+    }
+}
+
+impl<L: Ledgers + OfHistory> System<L> {
     /// A new book, in which no process sleeps or is lost, and the end at which the trace of its records is read.
     pub(crate) fn new(
         alloc: Global,
         limits: Limits,
         blanks: Blanks,
+        begun: Begun,
     ) -> Result<(Self, TraceEnd), AllocError>
         requires ledgers { blanks ≡ L.names }
+        requires history { begun.seen.book ≡ L.book }
         requires limits { L.limits ≡ Some limits }
         ensures system { IfOk result (λ pair. pair.0 ≡ record { book_is = record (new_book limits) { is_traced = true }; asleep_are = []; lost_are = [] }) }
         ensures trace { IfOk result (λ pair. received pair.1 ≡ []) }
@@ -70,7 +125,10 @@ impl<L: Ledgers> System<L> {
         let doors = Doors::new(alloc)?;
         let mut book = Book::new(alloc, limits, blanks)?;
         match book.trace_end() {
-            Some(trace) => Ok((System { book, doors }, trace)),
+            Some(trace) => {
+                let past = Past::new(begun);
+                Ok((System { book, past, doors }, trace))
+            }
             None => unreachable!(),
         }
     }
@@ -93,6 +151,13 @@ impl<L: Ledgers> System<L> {
         ensures distinct { AreDistinct result.now }
     {
         self.doors.lost.processes.as_slice()
+    }
+
+    /// The front of the history that has the records of the book, and no more.
+    pub fn front(&self) -> &Front<L>
+        ensures { result.now ≡ self.now.book_is.history }
+    {
+        self.past.front()
     }
 
     /// The book. Its house has no receipt yet, and the end of its trace was taken.
@@ -119,8 +184,9 @@ impl<L: Ledgers> System<L> {
     }
 
     /// Opens a process.
-    pub(crate) fn open(
+    pub(crate) fn open<Rt: Wait>(
         &mut self,
+        rt: &Rt,
         alloc: Global,
         bells: &Bells,
         request: Request,
@@ -128,6 +194,7 @@ impl<L: Ledgers> System<L> {
         requires { AsksForASeat request }
         ensures opens { OpensBy request result }
         ensures event { OpensIn self.old.book_is self.new.book_is request result }
+        ensures grows { Grows self.old.book_is.history self.new.book_is.history }
         ensures stood { StandsUnder L.limits self.old.book_is }
         ensures asleep { self.new.asleep_are ≡ still_asleep self.new.book_is self.old.asleep_are }
         ensures lost { self.new.lost_are ≡ still_lost self.new.book_is self.old.lost_are }
@@ -136,14 +203,16 @@ impl<L: Ledgers> System<L> {
         self.is_run();
         let process = opener(&self.book, &request);
         let opened = acts::open(&mut self.book, alloc, request);
+        add_opening(rt, &mut self.past, &opened);
         self.doors
             .settle(&self.book, bells, Stirred::Anybody { process });
         opened
     }
 
     /// Records a call, and wakes whom it concerns.
-    pub(crate) fn call(
+    pub(crate) fn call<Rt: Wait>(
         &mut self,
+        rt: &Rt,
         alloc: Global,
         bells: &Bells,
         seat: &mut Seat<L>,
@@ -151,6 +220,7 @@ impl<L: Ledgers> System<L> {
     ) -> Result<Receipt, Refusal>
         ensures calls { CallsBy seat.old seat.new call result }
         ensures event { CallsIn self.old.book_is self.new.book_is seat.old seat.new call result }
+        ensures grows { Grows self.old.book_is.history self.new.book_is.history }
         ensures stood { StandsUnder L.limits self.old.book_is }
         ensures part { IsPartOf seat.old.counted (counted_in self.old.book_is) }
         ensures asleep { self.new.asleep_are ≡ still_asleep self.new.book_is self.old.asleep_are }
@@ -160,17 +230,25 @@ impl<L: Ledgers> System<L> {
         self.is_run();
         let stirred = Stirred::by(self.book.machine(), seat.pid(), &call);
         let told = acts::call(&mut self.book, alloc, seat, call);
+        add_call(rt, &mut self.past, &told);
         self.doors.settle(&self.book, bells, stirred.told(&told));
         told
     }
 
     /// Puts a process to sleep whose call waits on this pipe; if its connection is lost, records its exit instead.
-    fn wait_on(&mut self, bells: &Bells, seat: Seat<L>, pipe: Option<usize>) -> TriedIn<L>
+    fn wait_on<Rt: Wait>(
+        &mut self,
+        rt: &Rt,
+        bells: &Bells,
+        seat: Seat<L>,
+        pipe: Option<usize>,
+    ) -> TriedIn<L>
         requires not_refused { resume_refusal self.old.book_is seat ≡ None }
         requires not_ready { is_ready_in self.old.book_is seat.pid ≡ false }
         requires its_pipe { pipe ≡ pipe_in self.old.book_is seat.pid }
         ensures tries { TriesBy seat result }
         ensures event { TriesIn self.old.book_is self.new.book_is seat result }
+        ensures grows { Grows self.old.book_is.history self.new.book_is.history }
         ensures given_up { GivesUpTheLost self.old.lost_are seat result }
         ensures still { IsLeftWaiting self.old self.new seat result }
         ensures asleep { self.new.asleep_are ≡ still_asleep self.new.book_is (with_sleeper self.old.asleep_are result) }
@@ -178,7 +256,7 @@ impl<L: Ledgers> System<L> {
     {
         let process = seat.pid();
         if self.doors.lost.has(process) {
-            return Tried::Ended(self.exit(bells, seat, Why::Lost));
+            return Tried::Ended(self.exit(rt, bells, seat, Why::Lost));
         }
         self.doors.fall_asleep(&self.book, process, pipe);
         Tried::Still(seat)
@@ -186,9 +264,16 @@ impl<L: Ledgers> System<L> {
 
     /// Takes up the call that a process waits in. Where it is not ready, the process sleeps from now on; but where its connection is lost,
     /// its exit is recorded. That it sleeps takes no memory.
-    pub(crate) fn take_up(&mut self, alloc: Global, bells: &Bells, seat: Seat<L>) -> TriedIn<L>
+    pub(crate) fn take_up<Rt: Wait>(
+        &mut self,
+        rt: &Rt,
+        alloc: Global,
+        bells: &Bells,
+        seat: Seat<L>,
+    ) -> TriedIn<L>
         ensures tries { TriesBy seat result }
         ensures event { TriesIn self.old.book_is self.new.book_is seat result }
+        ensures grows { Grows self.old.book_is.history self.new.book_is.history }
         ensures stood { StandsUnder L.limits self.old.book_is }
         ensures part { IsPartOf seat.counted (counted_in self.old.book_is) }
         ensures given_up { GivesUpTheLost self.old.lost_are seat result }
@@ -201,13 +286,15 @@ impl<L: Ledgers> System<L> {
         let process = seat.pid();
         let pipe = pipe_waited(self.book.machine(), process);
         match acts::resume(&mut self.book, alloc, seat) {
-            Tried::Still(seat) => self.wait_on(bells, seat, pipe),
+            Tried::Still(seat) => self.wait_on(rt, bells, seat, pipe),
             Tried::Resumed { seat, receipt } => {
+                self.past.add(rt, receipt.record());
                 let stirred = Stirred::at(process, pipe);
                 self.doors.settle(&self.book, bells, stirred);
                 Tried::Resumed { seat, receipt }
             }
             Tried::Ended(ended) => {
+                add_exit(rt, &mut self.past, &ended);
                 self.doors
                     .settle(&self.book, bells, Stirred::Anybody { process });
                 Tried::Ended(ended)
@@ -216,10 +303,11 @@ impl<L: Ledgers> System<L> {
     }
 
     /// Records the exit of a process for a reason, and wakes whom it concerns.
-    fn exit(&mut self, bells: &Bells, seat: Seat<L>, reason: Why) -> EndedIn<L>
+    fn exit<Rt: Wait>(&mut self, rt: &Rt, bells: &Bells, seat: Seat<L>, reason: Why) -> EndedIn<L>
         requires { IsReason reason }
         ensures ends { EndsByReason seat reason result }
         ensures event { ExitsIn self.old.book_is self.new.book_is seat result.seat result.why }
+        ensures grows { Grows self.old.book_is.history self.new.book_is.history }
         ensures due { ExitIsDue self.old.book_is seat result.why }
         ensures part { IsPartOf seat.counted (counted_in self.old.book_is) }
         ensures asleep { self.new.asleep_are ≡ still_asleep self.new.book_is self.old.asleep_are }
@@ -228,15 +316,17 @@ impl<L: Ledgers> System<L> {
         events_spare();
         let process = seat.pid();
         let ended = acts::exit(&mut self.book, seat, reason);
+        add_exit(rt, &mut self.past, &ended);
         self.doors
             .settle(&self.book, bells, Stirred::Anybody { process });
         ended
     }
 
     /// Records the exit of a process that is hung up.
-    pub(crate) fn hang_up(&mut self, bells: &Bells, seat: Seat<L>) -> EndedIn<L>
+    pub(crate) fn hang_up<Rt: Wait>(&mut self, rt: &Rt, bells: &Bells, seat: Seat<L>) -> EndedIn<L>
         ensures hangs_up { HangsUpBy seat result }
         ensures event { ExitsIn self.old.book_is self.new.book_is seat result.seat result.why }
+        ensures grows { Grows self.old.book_is.history self.new.book_is.history }
         ensures due { ExitIsDue self.old.book_is seat result.why }
         ensures part { IsPartOf seat.counted (counted_in self.old.book_is) }
         ensures stood { StandsUnder L.limits self.old.book_is }
@@ -244,7 +334,7 @@ impl<L: Ledgers> System<L> {
         ensures lost { self.new.lost_are ≡ still_lost self.new.book_is self.old.lost_are }
     {
         self.is_run();
-        self.exit(bells, seat, Why::HungUp)
+        self.exit(rt, bells, seat, Why::HungUp)
     }
 
     /// Marks a process as lost, if it is live and not marked yet, and wakes it if it sleeps. It takes no memory.

@@ -8,7 +8,6 @@ use Rattle.call_types.specs.declared.refusal.Refusal.{Refusal}
 use Rattle.call_types.specs.declared.request.Request.{Request}
 use Rattle.call_types.specs.declared.request.Request.TheVariants as request
 use Rattle.record_book.specs.Seat.{SeatState}
-use Rattle.system_lock.specs.declared.kernel.Why.{Why}
 use Rattle.system_lock.specs.declared.kernel.Why.TheVariants as ended_why
 use Rattle.session_core.specs.declared.told.Told.{Told}
 use Rattle.session_core.specs.Stages.{Stage, Over, Turn, LeftSession, Standing}
@@ -27,6 +26,7 @@ use Rattle.session_core.specs.Refusals.{AreSaid, RefusalSaid}
 use Rattle.session_core.specs.Said.{EndSaid, SaidEnded}
 use Rattle.session_core.specs.Proved.Saying.{OverSaid, TurnSaid}
 use Rattle.session_core.specs.Answering.{TakingEnd}
+use Rattle.system_lock.specs.Kernel.{Says}
 
 -- ---- the ring
 
@@ -92,33 +92,33 @@ TurnStands Said base taken o (turn.Over found) = IsOverAfter Said base taken o f
 -- ---- a session that is left
 
 -- a session that was over is left, and its kernel said what it ends for
-pub record LeftBy (unopened : Request → Refusal → Type 0) (refused : SeatState → Call → Refusal → Type 0) (ended : SeatState → Why → Type 0) (requests : List Request) (old : OutputState) (found : Over) (new : OutputState) (left : LeftSession) : Type 0 where
+pub record LeftBy (says : Says) (requests : List Request) (old : OutputState) (found : Over) (new : OutputState) (left : LeftSession) : Type 0 where
   pub leaves : LeavesAll old new found left
   pub keeps : KeepsSeat found left
   pub closes : ClosesBy found old new left
-  pub over_said : OverSaid unopened ended found
-  pub end_said : EndSaid unopened ended (result_ok left.seat) left.end
+  pub over_said : OverSaid says found
+  pub end_said : EndSaid says (result_ok left.seat) left.end
   pub answers : new.answers ≡ old.answers
-  pub said : AreSaid (RefusalSaid unopened refused ended requests) old.answers
+  pub said : AreSaid (RefusalSaid says requests) old.answers
 
 -- a session is left that was over with the last of these
-pub record HasLeft (unopened : Request → Refusal → Type 0) (refused : SeatState → Call → Refusal → Type 0) (ended : SeatState → Why → Type 0) (base : Option (List ℕ)) (taken : List Request) (o : OutputState) (left : LeftSession) : Type 0 where
+pub record HasLeft (says : Says) (base : Option (List ℕ)) (taken : List Request) (o : OutputState) (left : LeftSession) : Type 0 where
   pub old : OutputState
   pub found : Over
   pub ends : OverOf base taken old found
-  pub left_by : LeftBy unopened refused ended taken old found o left
+  pub left_by : LeftBy says taken old found o left
 
 -- where a session stands after these requests
-abbrev pub Stands : (Request → Refusal → Type 0) → (SeatState → Call → Refusal → Type 0) → (SeatState → Why → Type 0) → Option (List ℕ) → List Request → OutputState → Standing → Type 0
-Stands unopened refused ended base taken o (standing.Ready at) = IsReady (RefusalSaid unopened refused ended) base taken o at
-Stands unopened refused ended base taken o (standing.Waits seat) = IsWaitingIn (RefusalSaid unopened refused ended) base taken o seat
-Stands unopened refused ended base taken o (standing.Lost seat) = IsLostIn (RefusalSaid unopened refused ended) base taken o seat × SaidEnded ended seat ended_why.Lost
-Stands unopened refused ended base taken o (standing.Left left) = HasLeft unopened refused ended base taken o left
+abbrev pub Stands : Says → Option (List ℕ) → List Request → OutputState → Standing → Type 0
+Stands says base taken o (standing.Ready at) = IsReady (RefusalSaid says) base taken o at
+Stands says base taken o (standing.Waits seat) = IsWaitingIn (RefusalSaid says) base taken o seat
+Stands says base taken o (standing.Lost seat) = IsLostIn (RefusalSaid says) base taken o seat × SaidEnded says.ended seat ended_why.Lost
+Stands says base taken o (standing.Left left) = HasLeft says base taken o left
 
 -- the same at a desk from which it is not taken away
-abbrev pub StandsThere : (Request → Refusal → Type 0) → (SeatState → Call → Refusal → Type 0) → (SeatState → Why → Type 0) → Option (List ℕ) → List Request → OutputState → Option Standing → Type 0
-StandsThere unopened refused ended base taken o None = ⊥
-StandsThere unopened refused ended base taken o (Some standing) = Stands unopened refused ended base taken o standing
+abbrev pub StandsThere : Says → Option (List ℕ) → List Request → OutputState → Option Standing → Type 0
+StandsThere says base taken o None = ⊥
+StandsThere says base taken o (Some standing) = Stands says base taken o standing
 
 -- what a desk has come to whose session stands there
 abbrev pub attended_by : Standing → Attended
@@ -128,18 +128,18 @@ attended_by (standing.Lost seat) = attended.Left
 attended_by (standing.Left left) = attended.Left
 
 -- where a session stands after a turn
-abbrev pub StandsBy : (Request → Refusal → Type 0) → (SeatState → Call → Refusal → Type 0) → (SeatState → Why → Type 0) → OutputState → Turn → OutputState → Standing → Type 0
-StandsBy unopened refused ended old found new standing =
-    (base : Option (List ℕ)) (taken : List Request) → TurnStands (RefusalSaid unopened refused ended) base taken old found → TurnSaid unopened ended found → Stands unopened refused ended base taken new standing
+abbrev pub StandsBy : Says → OutputState → Turn → OutputState → Standing → Type 0
+StandsBy says old found new standing =
+    (base : Option (List ℕ)) (taken : List Request) → TurnStands (RefusalSaid says) base taken old found → TurnSaid says found → Stands says base taken new standing
 
 -- it goes on from where it stood after the first of these requests to where it stands after all of them
-abbrev pub StandsOn : (Request → Refusal → Type 0) → (SeatState → Call → Refusal → Type 0) → (SeatState → Why → Type 0) → List Request → OutputState → Standing → List Request → OutputState → Standing → Type 0
-StandsOn unopened refused ended taken old before more new after = (base : Option (List ℕ)) → Stands unopened refused ended base taken old before → Stands unopened refused ended base more new after
+abbrev pub StandsOn : Says → List Request → OutputState → Standing → List Request → OutputState → Standing → Type 0
+StandsOn says taken old before more new after = (base : Option (List ℕ)) → Stands says base taken old before → Stands says base more new after
 
 -- the answers of a session that goes on are written, or its writer has failed
-abbrev pub SendsOn : (Request → Refusal → Type 0) → (SeatState → Call → Refusal → Type 0) → (SeatState → Why → Type 0) → OutputState → Stage → OutputState → Turn → Type 0
-SendsOn unopened refused ended old at new found =
-    (base : Option (List ℕ)) (taken : List Request) → IsReady (RefusalSaid unopened refused ended) base taken old at → TurnStands (RefusalSaid unopened refused ended) base taken new found
+abbrev pub SendsOn : Says → OutputState → Stage → OutputState → Turn → Type 0
+SendsOn says old at new found =
+    (base : Option (List ℕ)) (taken : List Request) → IsReady (RefusalSaid says) base taken old at → TurnStands (RefusalSaid says) base taken new found
 
 -- all answers are written, if the session goes on with the next request
 abbrev pub SentIfOn : OutputState → Turn → Type 0
@@ -185,13 +185,13 @@ abbrev pub EndsAs : Option (List ℕ) → List Request → LeaveCause → Output
 EndsAs base sent cause o found = EndsEarly base sent o found ⊎ (EndsAfterAll base sent cause o found ⊎ EndsGivenUp base sent cause o found)
 
 -- a session is left to which these requests were sent, and which leaves off for this where each of them is answered
-pub record IsEnding (unopened : Request → Refusal → Type 0) (refused : SeatState → Call → Refusal → Type 0) (ended : SeatState → Why → Type 0) (base : Option (List ℕ)) (sent : List Request) (cause : LeaveCause) (o : OutputState) (left : LeftSession) : Type 0 where
+pub record IsEnding (says : Says) (base : Option (List ℕ)) (sent : List Request) (cause : LeaveCause) (o : OutputState) (left : LeftSession) : Type 0 where
   pub old : OutputState
   pub found : Over
   pub ends : EndsAs base sent cause old found
-  pub left_by : LeftBy unopened refused ended sent old found o left
+  pub left_by : LeftBy says sent old found o left
 
 -- it stood there when these requests had been taken and those were left
-abbrev pub EndsOn : (Request → Refusal → Type 0) → (SeatState → Call → Refusal → Type 0) → (SeatState → Why → Type 0) → List Request → List Request → LeaveCause → OutputState → Standing → OutputState → LeftSession → Type 0
-EndsOn unopened refused ended taken later cause old before new left =
-    (base : Option (List ℕ)) → Stands unopened refused ended base taken old before → IsEnding unopened refused ended base (taken ++ later) cause new left
+abbrev pub EndsOn : Says → List Request → List Request → LeaveCause → OutputState → Standing → OutputState → LeftSession → Type 0
+EndsOn says taken later cause old before new left =
+    (base : Option (List ℕ)) → Stands says base taken old before → IsEnding says base (taken ++ later) cause new left

@@ -11,6 +11,7 @@ use Rattle.session_core.specs.declared.stage.LeaveCause.TheVariants as why
 use Rattle.session_core.specs.declared.stage.Over.TheVariants as over
 use Rattle.session_core.specs.declared.stage.Turn.TheVariants as turn
 use Rattle.session_core.specs.Said.{SaidUnopened, SaidEnded}
+use Rattle.system_lock.specs.Kernel.{Says}
 
 -- a session leaves off: for want of room in the run only if a kernel refused an opening for that
 abbrev pub CauseSaid : (Request → Refusal → Type 0) → LeaveCause → Type 0
@@ -36,20 +37,20 @@ IsReadingEnd why.RunFull = ⊥
 IsReadingEnd other = Unit {0}
 
 -- where a session is over for a reason that only a kernel can give, the kernel gave it
-abbrev pub OverSaid : (Request → Refusal → Type 0) → (SeatState → Why → Type 0) → Over → Type 0
-OverSaid unopened ended (over.Leaves stage why) = CauseSaid unopened why
-OverSaid unopened ended (over.Unwritten stage) = Unit {0}
-OverSaid unopened ended (over.OpeningUntold seat) = Unit {0}
-OverSaid unopened ended (over.RefusalUntold seat) = Unit {0}
-OverSaid unopened ended (over.Untold seat receipt) = Unit {0}
-OverSaid unopened ended (over.Refused seat) = Unit {0}
-OverSaid unopened ended (over.Lost seat why) = SaidEnded ended seat ended_why.Lost × IsReadingEnd why
-OverSaid unopened ended (over.Ended seat why) = CauseEndedSaid ended seat why
-OverSaid unopened ended (over.Foreign seat) = SaidEnded ended seat ended_why.Foreign
+abbrev pub OverSaid : Says → Over → Type 0
+OverSaid says (over.Leaves stage why) = CauseSaid says.not_opened why
+OverSaid says (over.Unwritten stage) = Unit {0}
+OverSaid says (over.OpeningUntold seat) = Unit {0}
+OverSaid says (over.RefusalUntold seat) = Unit {0}
+OverSaid says (over.Untold seat receipt) = Unit {0}
+OverSaid says (over.Refused seat) = Unit {0}
+OverSaid says (over.Lost seat why) = SaidEnded says.ended seat ended_why.Lost × IsReadingEnd why
+OverSaid says (over.Ended seat why) = CauseEndedSaid says.ended seat why
+OverSaid says (over.Foreign seat) = SaidEnded says.ended seat ended_why.Foreign
 
 -- the same of a turn that is the last
-abbrev pub TurnSaid : (Request → Refusal → Type 0) → (SeatState → Why → Type 0) → Turn → Type 0
-TurnSaid unopened ended (turn.GoesOn stage) = Unit {0}
-TurnSaid unopened ended (turn.Waits seat) = Unit {0}
-TurnSaid unopened ended (turn.Lost seat) = SaidEnded ended seat ended_why.Lost
-TurnSaid unopened ended (turn.Over over) = OverSaid unopened ended over
+abbrev pub TurnSaid : Says → Turn → Type 0
+TurnSaid says (turn.GoesOn stage) = Unit {0}
+TurnSaid says (turn.Waits seat) = Unit {0}
+TurnSaid says (turn.Lost seat) = SaidEnded says.ended seat ended_why.Lost
+TurnSaid says (turn.Over over) = OverSaid says over

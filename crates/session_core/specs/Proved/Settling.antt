@@ -2,11 +2,6 @@
 use Rattle.std.specs.Prelude.{◌≡◌, ℕ, ◌≤◌, Bool, true, List, [], Option, None}
 use Rattle.std.specs.Option.{option_map}
 use Rattle.rtrb.specs.Ring.{sent}
-use Rattle.call_types.specs.declared.call.Call.{Call}
-use Rattle.call_types.specs.declared.refusal.Refusal.{Refusal}
-use Rattle.call_types.specs.declared.request.Request.{Request}
-use Rattle.record_book.specs.Seat.{SeatState}
-use Rattle.system_lock.specs.declared.kernel.Why.{Why}
 use Rattle.logged_streams.specs.Streams.{LoggedReaderState, fresh_log}
 use Rattle.logged_streams.specs.declared.stream_log.TheConstants.{INTERRUPTIONS_MAX}
 use Rattle.request_pump.specs.Pump.{PumpState}
@@ -21,6 +16,7 @@ use Rattle.session_core.specs.OutputState.{OutputState}
 use Rattle.session_core.specs.Proved.Closing.{session_of}
 use Rattle.session_core.specs.Proved.Desk.{IsEnding}
 use Rattle.session_core.specs.Served.{SessionState}
+use Rattle.system_lock.specs.Kernel.{Says}
 
 -- why a session leaves off whose requests are all answered, where its pump ended so
 abbrev pub why_of : PumpEnd → LeaveCause
@@ -31,10 +27,10 @@ why_of pump_end.NoMemory = why.NoMemory
 why_of pump_end.Ahead = why.Ahead
 
 -- a session whose pump came to this is put together: it is left, and its writer held this at the start
-pub record Settles (unopened : Request → Refusal → Type 0) (refused : SeatState → Call → Refusal → Type 0) (ended : SeatState → Why → Type 0) (always : Bool) (base : Option (List ℕ)) (p : PumpState) (s : SessionState) : Type 0 where
+pub record Settles (says : Says) (always : Bool) (base : Option (List ℕ)) (p : PumpState) (s : SessionState) : Type 0 where
   pub o : OutputState
   pub left : LeftSession
-  pub ending : IsEnding unopened refused ended base (sent p.producer) (why_of p.end_is) o left
+  pub ending : IsEnding says base (sent p.producer) (why_of p.end_is) o left
   pub is : session_of p.reader p.pushes o left ≡ s
   pub few : s.writer.log.interruptions ≤ INTERRUPTIONS_MAX
   pub let_through : always ≡ true → s.writer.log.refusals ≡ 0

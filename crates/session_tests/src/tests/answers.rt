@@ -10,6 +10,7 @@ use call_types::request::Request;
 use record_book::book::Book;
 use record_book::seat::{Seat, SpentSeat};
 use rtrb::{Consumer, Producer, RingBuffer};
+use run_history::front::{Begun, Front, OfHistory};
 use session_core::answer::{Answered, AnsweredSeat, answer};
 use session_core::end::End;
 use session_core::gate::OpenGate;
@@ -73,10 +74,11 @@ fn ring_of(
 }
 
 /// What comes of the requests that a ring holds, where no more is read.
-fn answered<Rt: Wait, L: Ledgers, K: Kernel<Seat<L>, SpentSeat<L>>>(
+fn answered<Rt: Wait, L: Ledgers + OfHistory, K: Kernel<Seat<L>, SpentSeat<L>, Front<L>>>(
     rt: &Rt,
     alloc: Global,
     kernel: &K,
+    front: Front<L>,
     admission: AdmissionTo<L>,
     ring: Consumer<Request>,
 ) -> CameOf
@@ -91,9 +93,10 @@ fn answered<Rt: Wait, L: Ledgers, K: Kernel<Seat<L>, SpentSeat<L>>>(
         flush_fails_at: None,
     };
     let writer = MemoryWriter::new(alloc, manner);
-    came_of(answer(
-        rt, alloc, ring, &note, writer, kernel, admission, 0, OpenGate,
-    ))
+    let (answered, _front) = answer(
+        rt, alloc, ring, &note, writer, kernel, front, admission, 0, OpenGate,
+    );
+    came_of(answered)
 }
 
 /// A join and so many forks.
@@ -107,57 +110,72 @@ fn join_and_forks(alloc: Global, forks: u32) -> Result<Vec<Request>, AllocError>
 }
 
 /// A run without records, under a lock.
-fn lock_of<L: Ledgers>(
+fn lock_of<L: Ledgers + OfHistory>(
     alloc: Global,
     limits: Limits,
     blanks: Blanks,
+    begun: Begun,
 ) -> Result<SystemLock<L>, AllocError>
     requires ledgers { blanks ≡ L.names }
+    requires history { begun.seen.book ≡ L.book }
     requires limits { L.limits ≡ Some limits }
 {
-    let (kernel, _trace) = SystemLock::new(alloc, limits, blanks)?;
+    let (kernel, _trace) = SystemLock::new(alloc, limits, blanks, begun)?;
     Ok(kernel)
 }
 
 /// What comes of a join and so many forks, under a lock.
-fn forks_answered<Rt: Wait, L: Ledgers>(
+fn forks_answered<Rt: Wait, L: Ledgers + OfHistory>(
     rt: &Rt,
     alloc: Global,
     limits: Limits,
     blanks: Blanks,
+    begun: Begun,
     forks: u32,
 ) -> Result<CameOf, Fail>
     requires ledgers { blanks ≡ L.names }
+    requires history { begun.seen.book ≡ L.book }
     requires limits { L.limits ≡ Some limits }
 {
     let (_producer, ring) = ring_of(alloc, join_and_forks(alloc, forks)?)?;
-    let kernel = lock_of::<L>(alloc, limits, blanks)?;
-    Ok(answered(rt, alloc, &kernel, kernel.admit(), ring))
+    let kernel = lock_of::<L>(alloc, limits, blanks, begun)?;
+    let front = kernel.front(rt);
+    Ok(answered(rt, alloc, &kernel, front, kernel.admit(), ring))
 }
 
 #[test]
 fn all_that_a_ring_holds_is_answered(rt: HostRuntime) -> Result<(), Fail> {
     let limits = Limits::new(100, 1024)?;
-    let came = forks_answered::<HostRuntime, Brand>(&rt, rt.alloc(), limits, Blanks::new(), 15)?;
+    let came = forks_answered::<HostRuntime, Brand>(
+        &rt,
+        rt.alloc(),
+        limits,
+        Blanks::new(),
+        Begun::new(),
+        15,
+    )?;
     assert!(rt; came == (Held::Live, 16, None));
     Ok(())
 }
 
 /// What comes of these requests, in a book of one thread that gives up a call that would wait.
-fn requests_answered<Rt: Wait, L: Ledgers>(
+fn requests_answered<Rt: Wait, L: Ledgers + OfHistory>(
     rt: &Rt,
     alloc: Global,
     limits: Limits,
     blanks: Blanks,
+    begun: Begun,
     requests: Vec<Request>,
 ) -> Result<CameOf, Fail>
     requires ledgers { blanks ≡ L.names }
+    requires history { begun.seen.book ≡ L.book }
     requires limits { L.limits ≡ Some limits }
 {
     let (_producer, ring) = ring_of(alloc, requests)?;
     let book = Book::<L>::new(alloc, limits, blanks)?;
     let kernel = OneBook::new(alloc, book, Vec::new(alloc));
-    Ok(answered(rt, alloc, &kernel, kernel.admit(), ring))
+    let (_history, front) = begun.named::<L>();
+    Ok(answered(rt, alloc, &kernel, front, kernel.admit(), ring))
 }
 
 /// The requests of a process that joins and waits for the bytes of a pipe which its child could write.
@@ -181,6 +199,7 @@ fn call_that_is_given_up_is_the_last(rt: HostRuntime) -> Result<(), Fail> {
         rt.alloc(),
         limits,
         Blanks::new(),
+        Begun::new(),
         requests,
     )?;
     assert!(rt; came == (Held::Spent, 4, None));
@@ -196,6 +215,7 @@ fn request_out_of_place_ends_it(rt: HostRuntime) -> Result<(), Fail> {
         rt.alloc(),
         limits,
         Blanks::new(),
+        Begun::new(),
         requests,
     )?;
     assert!(rt; came == (Held::Spent, 1, Some(End::Malformed)));

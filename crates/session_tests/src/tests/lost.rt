@@ -12,6 +12,7 @@ use call_types::outcome::{Outcome, Reply};
 use call_types::request::Request;
 use record_book::opening::{Opened, OpenedIn};
 use record_book::seat::{Receipt, Seat, SpentSeat};
+use run_history::front::{Begun, OfHistory};
 use std::alloc::Global;
 use std::marker::Brand;
 use std::process::Abort;
@@ -27,15 +28,17 @@ use system_lock::system::System;
 const REPEATED: u32 = 100;
 
 /// The kernel of a run of few records.
-fn kernel_of<L: Ledgers>(
+fn kernel_of<L: Ledgers + OfHistory>(
     alloc: Global,
     limits: Limits,
     blanks: Blanks,
+    begun: Begun,
 ) -> Result<SystemLock<L>, Fail>
     requires ledgers { blanks ≡ L.names }
+    requires history { begun.seen.book ≡ L.book }
     requires limits { L.limits ≡ Some limits }
 {
-    let (kernel, _trace) = SystemLock::new(alloc, limits, blanks)?;
+    let (kernel, _trace) = SystemLock::new(alloc, limits, blanks, begun)?;
     Ok(kernel)
 }
 
@@ -48,21 +51,24 @@ fn seated<L: Ledgers>(opened: OpenedIn<L>) -> Option<Seat<L>> {
 }
 
 /// The seat that an opening gives, which is a join or an attach.
-fn opened<Rt: Wait, L: Ledgers>(
+fn opened<Rt: Wait, L: Ledgers + OfHistory>(
     rt: &Rt,
     kernel: &SystemLock<L>,
     request: Request,
 ) -> Option<Seat<L>>
     requires { AsksForASeat request }
 {
-    match kernel.open(rt, kernel.admit(), request) {
+    match kernel.open(rt, &mut kernel.front(rt), kernel.admit(), request) {
         Ok(opened) => seated(opened),
         Err(_) => None,
     }
 }
 
 /// The seat of a new process.
-fn joined<Rt: Wait, L: Ledgers>(rt: &Rt, kernel: &SystemLock<L>) -> Result<Seat<L>, Fail> {
+fn joined<Rt: Wait, L: Ledgers + OfHistory>(
+    rt: &Rt,
+    kernel: &SystemLock<L>,
+) -> Result<Seat<L>, Fail> {
     match opened(rt, kernel, Request::Join) {
         Some(seat) => Ok(seat),
         None => Err("there is room for a process")?,
@@ -70,7 +76,10 @@ fn joined<Rt: Wait, L: Ledgers>(rt: &Rt, kernel: &SystemLock<L>) -> Result<Seat<
 }
 
 /// The seat of process 1, which is not attached yet.
-fn attached<Rt: Wait, L: Ledgers>(rt: &Rt, kernel: &SystemLock<L>) -> Result<Seat<L>, Fail> {
+fn attached<Rt: Wait, L: Ledgers + OfHistory>(
+    rt: &Rt,
+    kernel: &SystemLock<L>,
+) -> Result<Seat<L>, Fail> {
     match opened(rt, kernel, Request::Attach { process: 1 }) {
         Some(seat) => Ok(seat),
         None => Err("there is room for a process")?,
@@ -78,13 +87,13 @@ fn attached<Rt: Wait, L: Ledgers>(rt: &Rt, kernel: &SystemLock<L>) -> Result<Sea
 }
 
 /// Whether a call is recorded as one that waits.
-fn waits<Rt: Wait, L: Ledgers>(
+fn waits<Rt: Wait, L: Ledgers + OfHistory>(
     rt: &Rt,
     kernel: &SystemLock<L>,
     seat: &mut Seat<L>,
     call: Call,
 ) -> bool {
-    match kernel.call(rt, seat, call) {
+    match kernel.call(rt, &mut kernel.front(rt), seat, call) {
         Ok(receipt) => match receipt.record().outcome {
             Outcome::Parked { .. } => true,
             _ => false,
@@ -94,17 +103,17 @@ fn waits<Rt: Wait, L: Ledgers>(
 }
 
 /// Whether a call is recorded.
-fn is_recorded<Rt: Wait, L: Ledgers>(
+fn is_recorded<Rt: Wait, L: Ledgers + OfHistory>(
     rt: &Rt,
     kernel: &SystemLock<L>,
     seat: &mut Seat<L>,
     call: Call,
 ) -> bool {
-    kernel.call(rt, seat, call).is_ok()
+    kernel.call(rt, &mut kernel.front(rt), seat, call).is_ok()
 }
 
 /// Has a process wait for the bytes of a pipe of its own, which its child could write.
-fn read_of_a_pipe<Rt: Wait, L: Ledgers>(
+fn read_of_a_pipe<Rt: Wait, L: Ledgers + OfHistory>(
     rt: &Rt,
     kernel: &SystemLock<L>,
     seat: &mut Seat<L>,
@@ -119,7 +128,10 @@ fn read_of_a_pipe<Rt: Wait, L: Ledgers>(
 }
 
 /// The seat of a new process that waits for the bytes of a pipe of its own.
-fn waiting<Rt: Wait, L: Ledgers>(rt: &Rt, kernel: &SystemLock<L>) -> Result<Seat<L>, Fail> {
+fn waiting<Rt: Wait, L: Ledgers + OfHistory>(
+    rt: &Rt,
+    kernel: &SystemLock<L>,
+) -> Result<Seat<L>, Fail> {
     let mut seat = joined(rt, kernel)?;
     read_of_a_pipe(rt, kernel, &mut seat)?;
     Ok(seat)
@@ -149,45 +161,50 @@ fn is_given_up<L: Ledgers>(finished: FinishedIn<L>) -> bool {
 }
 
 /// Whether a call is given up whose process is lost twice before it would sleep.
-fn is_given_up_awake<Rt: Wait, L: Ledgers>(rt: &Rt, kernel: &SystemLock<L>) -> Result<bool, Fail> {
+fn is_given_up_awake<Rt: Wait, L: Ledgers + OfHistory>(
+    rt: &Rt,
+    kernel: &SystemLock<L>,
+) -> Result<bool, Fail> {
     let seat = waiting(rt, kernel)?;
     kernel.lost(rt, seat.pid());
     kernel.lost(rt, seat.pid());
-    Ok(is_given_up(kernel.finish(rt, seat)))
+    Ok(is_given_up(kernel.finish(rt, &mut kernel.front(rt), seat)))
 }
 
 /// Whether nobody sleeps.
-fn none_sleeps<L: Ledgers>(system: &System<L>) -> bool {
+fn none_sleeps<L: Ledgers + OfHistory>(system: &System<L>) -> bool {
     system.asleep().is_empty()
 }
 
 /// Whether nobody is lost.
-fn none_is_lost<L: Ledgers>(system: &System<L>) -> bool {
+fn none_is_lost<L: Ledgers + OfHistory>(system: &System<L>) -> bool {
     system.lost().is_empty()
 }
 
 /// Whether nobody sleeps and nobody is lost.
-fn is_at_rest<L: Ledgers>(system: &System<L>) -> bool {
+fn is_at_rest<L: Ledgers + OfHistory>(system: &System<L>) -> bool {
     none_sleeps(system) && none_is_lost(system)
 }
 
 /// Whether nobody sleeps and nobody is lost when the kernel is closed.
-fn ends_at_rest<L: Ledgers>(kernel: SystemLock<L>) -> bool {
+fn ends_at_rest<L: Ledgers + OfHistory>(kernel: SystemLock<L>) -> bool {
     let system = kernel.take();
     is_at_rest(&system)
 }
 
 /// Whether a call is given up whose process is lost before it would sleep, and a second word of that changes nothing.
-fn gives_up_at_once<Rt: Wait, L: Ledgers>(
+fn gives_up_at_once<Rt: Wait, L: Ledgers + OfHistory>(
     rt: &Rt,
     alloc: Global,
     limits: Limits,
     blanks: Blanks,
+    begun: Begun,
 ) -> Result<bool, Fail>
     requires ledgers { blanks ≡ L.names }
+    requires history { begun.seen.book ≡ L.book }
     requires limits { L.limits ≡ Some limits }
 {
-    let kernel = kernel_of::<L>(alloc, limits, blanks)?;
+    let kernel = kernel_of::<L>(alloc, limits, blanks, begun)?;
     let is_given_up = is_given_up_awake(rt, &kernel);
     let is_at_rest = ends_at_rest(kernel);
     Ok(is_given_up? && is_at_rest)
@@ -196,12 +213,20 @@ fn gives_up_at_once<Rt: Wait, L: Ledgers>(
 #[test]
 fn call_of_a_lost_process_is_given_up(rt: HostRuntime) -> Result<(), Fail> {
     let limits = Limits::new(100, 1024)?;
-    assert!(rt; gives_up_at_once::<HostRuntime, Brand>(&rt, rt.alloc(), limits, Blanks::new())?);
+    assert!(rt;
+        gives_up_at_once::<HostRuntime, Brand>(
+            &rt,
+            rt.alloc(),
+            limits,
+            Blanks::new(),
+            Begun::new()
+        )?
+    );
     Ok(())
 }
 
 /// Has a child write a byte into the pipe that its parent waits for, after the parent is lost.
-fn child_writes<Rt: Wait, L: Ledgers>(
+fn child_writes<Rt: Wait, L: Ledgers + OfHistory>(
     rt: &Rt,
     alloc: Global,
     kernel: &SystemLock<L>,
@@ -237,43 +262,52 @@ fn is_lost<L: Ledgers>(finished: FinishedIn<L>) -> bool {
 }
 
 /// Whether the next call of a lost process waits and is given up.
-fn gives_up_the_next<Rt: Wait, L: Ledgers>(rt: &Rt, kernel: &SystemLock<L>, seat: Seat<L>) -> bool {
+fn gives_up_the_next<Rt: Wait, L: Ledgers + OfHistory>(
+    rt: &Rt,
+    kernel: &SystemLock<L>,
+    seat: Seat<L>,
+) -> bool {
     let mut seat = seat;
-    waits(rt, kernel, &mut seat, Call::Read { fd: 0, count: 1 }) && is_lost(kernel.finish(rt, seat))
+    waits(rt, kernel, &mut seat, Call::Read { fd: 0, count: 1 })
+        && is_lost(kernel.finish(rt, &mut kernel.front(rt), seat))
 }
 
 /// Whether the call of a lost process goes on once a byte is there, and its next one is given up.
-fn goes_on_once<Rt: Wait, L: Ledgers>(
+fn goes_on_once<Rt: Wait, L: Ledgers + OfHistory>(
     rt: &Rt,
     alloc: Global,
     kernel: &SystemLock<L>,
 ) -> Result<bool, Fail> {
     let seat = waiting(rt, kernel)?;
     child_writes(rt, alloc, kernel, seat.pid())?;
-    match resumed(kernel.finish(rt, seat)) {
+    match resumed(kernel.finish(rt, &mut kernel.front(rt), seat)) {
         Some(seat) => Ok(gives_up_the_next(rt, kernel, seat)),
         None => Ok(false),
     }
 }
 
 /// Whether a call that is ready goes on although its process is lost, and the next one that waits is given up.
-fn goes_on_first<Rt: Wait, L: Ledgers>(
+fn goes_on_first<Rt: Wait, L: Ledgers + OfHistory>(
     rt: &Rt,
     alloc: Global,
     limits: Limits,
     blanks: Blanks,
+    begun: Begun,
 ) -> Result<bool, Fail>
     requires ledgers { blanks ≡ L.names }
+    requires history { begun.seen.book ≡ L.book }
     requires limits { L.limits ≡ Some limits }
 {
-    let kernel = kernel_of::<L>(alloc, limits, blanks)?;
+    let kernel = kernel_of::<L>(alloc, limits, blanks, begun)?;
     goes_on_once(rt, alloc, &kernel)
 }
 
 #[test]
 fn call_that_is_ready_goes_on_first(rt: HostRuntime) -> Result<(), Fail> {
     let limits = Limits::new(100, 1024)?;
-    assert!(rt; goes_on_first::<HostRuntime, Brand>(&rt, rt.alloc(), limits, Blanks::new())?);
+    assert!(rt;
+        goes_on_first::<HostRuntime, Brand>(&rt, rt.alloc(), limits, Blanks::new(), Begun::new())?
+    );
     Ok(())
 }
 
@@ -287,16 +321,17 @@ fn stand_aside() {
 /// Whether a thread that sleeps in a call is woken when its process is lost, and gives the call up.
 fn wakes_a_sleeper<
     Rt: Threads + Wait + Copy + Send + Drop + 'static,
-    L: Ledgers + Send + Sync + 'static,
->(rt: Rt, alloc: Global, limits: Limits, blanks: Blanks) -> Result<bool, Fail>
+    L: Ledgers + OfHistory + Send + Sync + 'static,
+>(rt: Rt, alloc: Global, limits: Limits, blanks: Blanks, begun: Begun) -> Result<bool, Fail>
     requires ledgers { blanks ≡ L.names }
+    requires history { begun.seen.book ≡ L.book }
     requires limits { L.limits ≡ Some limits }
 {
-    let kernel = Arc::new(alloc, kernel_of::<L>(alloc, limits, blanks)?)?;
+    let kernel = Arc::new(alloc, kernel_of::<L>(alloc, limits, blanks, begun)?)?;
     let its_kernel = Arc::try_clone(&kernel)?;
     let seat = waiting(&rt, &kernel)?;
     let process = seat.pid();
-    let finishing = move || is_given_up(its_kernel.finish(&rt, seat));
+    let finishing = move || is_given_up(its_kernel.finish(&rt, &mut its_kernel.front(&rt), seat));
     match Builder::new().spawn(&rt, finishing) {
         Ok(sleeper) => {
             stand_aside();
@@ -311,7 +346,15 @@ fn wakes_a_sleeper<
 fn sleeper_is_woken_when_its_process_is_lost(rt: HostRuntime) -> Result<(), Fail> {
     for _ in 0..REPEATED {
         let limits = Limits::new(100, 1024)?;
-        assert!(rt; wakes_a_sleeper::<HostRuntime, Brand>(rt, rt.alloc(), limits, Blanks::new())?);
+        assert!(rt;
+            wakes_a_sleeper::<HostRuntime, Brand>(
+                rt,
+                rt.alloc(),
+                limits,
+                Blanks::new(),
+                Begun::new()
+            )?
+        );
     }
     Ok(())
 }

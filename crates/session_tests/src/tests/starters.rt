@@ -4,6 +4,7 @@ ghost use Rattle.std.specs.Prelude.{◌≡◌, Some};
 
 use byte_ledger::ledgers::{Blanks, Ledgers};
 use call_types::limits::Limits;
+use run_history::front::{Begun, OfHistory};
 use session_core::end::End;
 use session_core::gate::OpenGate;
 use session_core::memory::{Manner, MemoryReader, MemoryWriter};
@@ -61,15 +62,17 @@ fn came_to<L: Ledgers>(served: Served<MemoryReader, MemoryWriter, L>) -> CameTo 
 fn served_by<
     Rt: Threads + Wait + Copy + Drop + Send + Sync + 'static,
     T: Starter,
-    L: Ledgers + Send + Sync + 'static,
+    L: Ledgers + OfHistory + Send + Sync + 'static,
 >(
     rt: Rt,
     alloc: Global,
     starter: &mut T,
     limits: Limits,
     blanks: Blanks,
+    begun: Begun,
 ) -> Result<CameTo, AllocError>
     requires ledgers { blanks ≡ L.names }
+    requires history { begun.seen.book ≡ L.book }
     requires limits { L.limits ≡ Some limits }
 {
     let manner = Manner {
@@ -81,12 +84,14 @@ fn served_by<
     let join = vec![in alloc; 0u8, 0, 0, 1, 1]?;
     let reader = MemoryReader::new(join, manner);
     let writer = MemoryWriter::new(alloc, manner);
-    let (kernel, _trace) = SystemLock::<L>::new(alloc, limits, blanks)?;
+    let (kernel, _trace) = SystemLock::<L>::new(alloc, limits, blanks, begun)?;
     let kernel = Arc::new(alloc, kernel)?;
     let admission = kernel.admit();
-    Ok(came_to(serve(
-        rt, alloc, starter, reader, writer, kernel, admission, 0, OpenGate,
-    )))
+    let front = kernel.front(&rt);
+    let (served, _known) = serve(
+        rt, alloc, starter, reader, writer, kernel, front, admission, 0, OpenGate,
+    );
+    Ok(came_to(served))
 }
 
 #[test]
@@ -99,6 +104,7 @@ fn session_without_a_thread_does_nothing(rt: HostRuntime) -> Result<(), Fail> {
         &mut starter,
         limits,
         Blanks::new(),
+        Begun::new(),
     )?;
     assert!(rt; came == (End::NoThread, false, false, 0, 0));
     assert!(rt; starter.failures == 1);
@@ -115,6 +121,7 @@ fn session_with_a_thread_counts_no_failure(rt: HostRuntime) -> Result<(), Fail> 
         &mut starter,
         limits,
         Blanks::new(),
+        Begun::new(),
     )?;
     assert!(rt; came == (End::Closed, true, true, 1, 22));
     Ok(())

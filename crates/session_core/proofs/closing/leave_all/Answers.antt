@@ -55,19 +55,19 @@ returns-in-RefusalUntold-clause-all g c =
     (laws.refusal_untold c.args.output.now c.in-RefusalUntold.seat)
 
 pub returns-in-Leaves-clause-said : goal.returns-in-Leaves-clause-said
-returns-in-Leaves-clause-said g c = λ said. c.leave.ensures.said (leaves_said g.K.Kernel.not_opened g.K.Kernel.ended None _ _ c.args.over c.in-Leaves.stage c.in-Leaves.why c.send_last-end.result c.in-Leaves.is c.send_last-end.ensures said)
+returns-in-Leaves-clause-said g c h p = λ said. (c.leave.ensures.said h p) (leaves_said (g.K.Kernel.says h) None _ _ c.args.over c.in-Leaves.stage c.in-Leaves.why c.send_last-end.result c.in-Leaves.is c.send_last-end.ensures said)
 
 pub returns-in-Refused-clause-said : goal.returns-in-Refused-clause-said
-returns-in-Refused-clause-said g c = λ said. rw c.left_by-in-Refused.ensures (closed_said g.K.Kernel.not_opened g.K.Kernel.ended (Some c.in-Refused.seat) _ _ c.send_last-end-in-Refused.result c.send_last-end-in-Refused.ensures)
+returns-in-Refused-clause-said g c h p = λ said. rw c.left_by-in-Refused.ensures (closed_said (g.K.Kernel.says h) (Some c.in-Refused.seat) _ _ c.send_last-end-in-Refused.result c.send_last-end-in-Refused.ensures)
 
 pub returns-in-Lost-clause-said : goal.returns-in-Lost-clause-said
-returns-in-Lost-clause-said g c = λ said. rw c.left_by-in-Lost.ensures (lost_said g.K.Kernel.not_opened g.K.Kernel.ended _ _ c.args.over c.in-Lost.seat c.in-Lost.why c.send_last-end-in-Lost.result c.in-Lost.is c.send_last-end-in-Lost.ensures said)
+returns-in-Lost-clause-said g c h p = λ said. rw c.left_by-in-Lost.ensures (lost_said (g.K.Kernel.says h) _ _ c.args.over c.in-Lost.seat c.in-Lost.why c.send_last-end-in-Lost.result c.in-Lost.is c.send_last-end-in-Lost.ensures said)
 
 pub returns-in-Ended-clause-said : goal.returns-in-Ended-clause-said
-returns-in-Ended-clause-said g c = λ said. rw c.left_by-in-Ended.ensures (ended_said g.K.Kernel.not_opened g.K.Kernel.ended _ _ c.args.over c.in-Ended.seat c.in-Ended.why c.send_last-end-in-Ended.result c.in-Ended.is c.send_last-end-in-Ended.ensures said)
+returns-in-Ended-clause-said g c h p = λ said. rw c.left_by-in-Ended.ensures (ended_said (g.K.Kernel.says h) _ _ c.args.over c.in-Ended.seat c.in-Ended.why c.send_last-end-in-Ended.result c.in-Ended.is c.send_last-end-in-Ended.ensures said)
 
 pub returns-in-Foreign-clause-said : goal.returns-in-Foreign-clause-said
-returns-in-Foreign-clause-said g c = λ said. rw c.left_by-in-Foreign.ensures (foreign_said g.K.Kernel.not_opened g.K.Kernel.ended c.args.over c.in-Foreign.seat c.in-Foreign.is said)
+returns-in-Foreign-clause-said g c h p = λ said. rw c.left_by-in-Foreign.ensures (foreign_said (g.K.Kernel.says h) c.args.over c.in-Foreign.seat c.in-Foreign.is said)
 
 pub returns-in-Leaves-clause-seat : goal.returns-in-Leaves-clause-seat
 returns-in-Leaves-clause-seat g c = keeps_left c.args.over c.in-Leaves.stage c.in-Leaves.why c.send_last-end.result c.leave.result c.in-Leaves.is c.leave.ensures.seat
@@ -120,3 +120,12 @@ returns-in-Lost-clause-answers g c = laws.answers_sent c.args.output.now c.send_
 
 pub returns-in-Ended-clause-answers : goal.returns-in-Ended-clause-answers
 returns-in-Ended-clause-answers g c = laws.answers_sent c.args.output.now c.send_last-end-in-Ended.new.output c.in-Ended.why c.send_last-end-in-Ended.result c.send_last-end-in-Ended.ensures
+
+pub returns-in-Unwritten-clause-said : goal.returns-in-Unwritten-clause-said
+returns-in-Unwritten-clause-said g c h p said = c.leave-in-Unwritten.ensures.said h p tt
+
+pub returns-in-OpeningUntold-clause-said : goal.returns-in-OpeningUntold-clause-said
+returns-in-OpeningUntold-clause-said g c h p said = rw c.left_by.ensures (c.hang_up.ensures.said h p tt)
+
+pub returns-in-Untold-clause-said : goal.returns-in-Untold-clause-said
+returns-in-Untold-clause-said g c h p said = c.leave_untold.ensures.said h p

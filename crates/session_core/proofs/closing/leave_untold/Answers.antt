@@ -32,3 +32,9 @@ returns-in-Ok-clause-answers g c = c.in-Ok.ensures.ok.flushes.answers
 
 pub returns-in-Err-clause-answers : goal.returns-in-Err-clause-answers
 returns-in-Err-clause-answers g c = c.in-Err.ensures.err.answers
+
+pub returns-in-Ok-clause-said : goal.returns-in-Ok-clause-said
+returns-in-Ok-clause-said g c h p = rw c.left_by.ensures (c.hang_up.ensures.said h p tt)
+
+pub returns-in-Err-clause-said : goal.returns-in-Err-clause-said
+returns-in-Err-clause-said g c h p = rw c.left_by-in-Err.ensures (c.hang_up-in-Err.ensures.said h p tt)

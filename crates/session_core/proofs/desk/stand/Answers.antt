@@ -6,6 +6,6 @@ use Rattle.session_core.proofs.DeskLemmas as laws
 use Rattle.session_core.proofs.desk.stand.Goals as goal
 
 pub returns-in-Over-clause-stands : goal.returns-in-Over-clause-stands
-returns-in-Over-clause-stands g c base taken is said =
-    laws.has_left g.K.Kernel.not_opened g.K.Kernel.refused g.K.Kernel.ended base taken c.args.output.now c.leave.new.output c.in-Over.over c.leave.result
-    (subst (TurnStands (RefusalSaid g.K.Kernel.not_opened g.K.Kernel.refused g.K.Kernel.ended) base taken c.args.output.now) c.in-Over.is is) (subst (TurnSaid g.K.Kernel.not_opened g.K.Kernel.ended) c.in-Over.is said) c.leave.ensures.left
+returns-in-Over-clause-stands g c h p base taken is said =
+    laws.has_left (g.K.Kernel.says h) base taken c.args.output.now c.leave.new.output c.in-Over.over c.leave.result
+    (subst (TurnStands (RefusalSaid (g.K.Kernel.says h)) base taken c.args.output.now) c.in-Over.is is) (subst (TurnSaid (g.K.Kernel.says h)) c.in-Over.is said) (c.leave.ensures.left h p)

@@ -35,25 +35,25 @@ returns-in-Err-put_recorded-clause-takes g c =
     (subst (λ (r : Receipted). EndsOrWaits r.record_is.outcome) (sym c.in-Err-put_recorded.ensures.back) c.in-Ok.ensures.calls.1) c.in-Err-put_recorded.ensures.err
 
 pub returns-in-Ok-put_refused-clause-refusals : goal.returns-in-Ok-put_refused-clause-refusals
-returns-in-Ok-put_refused-clause-refusals g c base handled holds talking are =
-    call_refused g.K.Kernel.not_opened g.K.Kernel.refused g.K.Kernel.ended handled c.args.seat c.args.call c.in-Err.refusal c.args.output.now c.put_refused.new.self talking c.in-Err.ensures.refused c.in-Ok-put_refused.ensures.ok are
+returns-in-Ok-put_refused-clause-refusals g c h p base handled holds talking are =
+    call_refused (g.K.Kernel.says h) handled c.args.seat c.args.call c.in-Err.refusal c.args.output.now c.put_refused.new.self talking (c.in-Err.ensures.refused h p) c.in-Ok-put_refused.ensures.ok are
 
 pub returns-in-Err-put_refused-clause-refusals : goal.returns-in-Err-put_refused-clause-refusals
-returns-in-Err-put_refused-clause-refusals g c base handled holds talking are =
-    same_said (RefusalSaid g.K.Kernel.not_opened g.K.Kernel.refused g.K.Kernel.ended (handled ++ request.Call c.args.call ∷ [])) c.args.output.now c.put_refused.new.self
-    c.in-Err-put_refused.ensures.err (wider g.K.Kernel.not_opened g.K.Kernel.refused g.K.Kernel.ended handled (request.Call c.args.call ∷ []) c.args.output.now.answers are)
+returns-in-Err-put_refused-clause-refusals g c h p base handled holds talking are =
+    same_said (RefusalSaid (g.K.Kernel.says h) (handled ++ request.Call c.args.call ∷ [])) c.args.output.now c.put_refused.new.self
+    c.in-Err-put_refused.ensures.err (wider (g.K.Kernel.says h) handled (request.Call c.args.call ∷ []) c.args.output.now.answers are)
 
 pub returns-in-Ok-put_recorded-clause-refusals : goal.returns-in-Ok-put_recorded-clause-refusals
-returns-in-Ok-put_recorded-clause-refusals g c base handled holds talking are =
-    put_said (RefusalSaid g.K.Kernel.not_opened g.K.Kernel.refused g.K.Kernel.ended (handled ++ request.Call c.args.call ∷ [])) c.args.output.now c.put_recorded.new.self (told.Recorded c.in-Ok.receipt)
-    c.in-Ok-put_recorded.ensures.ok (wider g.K.Kernel.not_opened g.K.Kernel.refused g.K.Kernel.ended handled (request.Call c.args.call ∷ []) c.args.output.now.answers are) tt
+returns-in-Ok-put_recorded-clause-refusals g c h p base handled holds talking are =
+    put_said (RefusalSaid (g.K.Kernel.says h) (handled ++ request.Call c.args.call ∷ [])) c.args.output.now c.put_recorded.new.self (told.Recorded c.in-Ok.receipt)
+    c.in-Ok-put_recorded.ensures.ok (wider (g.K.Kernel.says h) handled (request.Call c.args.call ∷ []) c.args.output.now.answers are) tt
 
 pub returns-in-Ok-2-clause-refusals : goal.returns-in-Ok-2-clause-refusals
-returns-in-Ok-2-clause-refusals g c base handled holds talking are =
-    put_said (RefusalSaid g.K.Kernel.not_opened g.K.Kernel.refused g.K.Kernel.ended (handled ++ request.Call c.args.call ∷ [])) c.args.output.now c.put_recorded.new.self
-    (told.Recorded c.in-Ok.receipt) c.in-Ok-2.ensures.ok (wider g.K.Kernel.not_opened g.K.Kernel.refused g.K.Kernel.ended handled (request.Call c.args.call ∷ []) c.args.output.now.answers are) tt
+returns-in-Ok-2-clause-refusals g c h p base handled holds talking are =
+    put_said (RefusalSaid (g.K.Kernel.says h) (handled ++ request.Call c.args.call ∷ [])) c.args.output.now c.put_recorded.new.self
+    (told.Recorded c.in-Ok.receipt) c.in-Ok-2.ensures.ok (wider (g.K.Kernel.says h) handled (request.Call c.args.call ∷ []) c.args.output.now.answers are) tt
 
 pub returns-in-Err-put_recorded-clause-refusals : goal.returns-in-Err-put_recorded-clause-refusals
-returns-in-Err-put_recorded-clause-refusals g c base handled holds talking are =
-    same_said (RefusalSaid g.K.Kernel.not_opened g.K.Kernel.refused g.K.Kernel.ended (handled ++ request.Call c.args.call ∷ [])) c.args.output.now c.put_recorded.new.self
-    c.in-Err-put_recorded.ensures.err (wider g.K.Kernel.not_opened g.K.Kernel.refused g.K.Kernel.ended handled (request.Call c.args.call ∷ []) c.args.output.now.answers are)
+returns-in-Err-put_recorded-clause-refusals g c h p base handled holds talking are =
+    same_said (RefusalSaid (g.K.Kernel.says h) (handled ++ request.Call c.args.call ∷ [])) c.args.output.now c.put_recorded.new.self
+    c.in-Err-put_recorded.ensures.err (wider (g.K.Kernel.says h) handled (request.Call c.args.call ∷ []) c.args.output.now.answers are)

@@ -1,6 +1,9 @@
--- The ledgers of the run are those that the call makes, and its limits those that it is given.
+-- The ledgers and the history of the run are those that the call makes, and its limits those that it is given.
 use Rattle.std.specs.Prelude.{Some}
 use Rattle.session_tests.proofs.tests.starters.session_with_a_thread_counts_no_failure.Given as goal
 
-abbrev pub ghosts-served_by : goal.ghosts-served_by
-ghosts-served_by g a = record { names = a.blanks; limits = Some a.limits }
+abbrev pub ghosts-served_by-L-Ledgers : goal.ghosts-served_by-L-Ledgers
+ghosts-served_by-L-Ledgers g a = record { names = a.blanks; limits = Some a.limits }
+
+abbrev pub ghosts-served_by-L-OfHistory : goal.ghosts-served_by-L-OfHistory
+ghosts-served_by-L-OfHistory g a = record { book = a.begun.seen.book }

@@ -1,8 +1,13 @@
-use Rattle.std.proofs.Common.{◌≡◌, ◌∙◌, ℕ, ap, sym, subst}
+use Rattle.std.proofs.Common.{◌≡◌, ◌∙◌, ℕ, ap, rules, sym, subst}
+use mathlib.Core.List.{IsPrefix}
 use Rattle.posix_model.specs.declared.world.World.{World}
 use Rattle.system_lock.specs.Proved.Stirred.{pipe_waited, stirred_at}
 use Rattle.system_lock.specs.Proved.Sleepers.{pipe_in, SparesIn}
 use Rattle.system_lock.specs.declared.stirred.Stirred.TheVariants as stirred
+use Rattle.run_history.specs.Fronts.{Grows}
+use Rattle.system_lock.specs.System.{SystemState}
+use Rattle.system_lock.specs.declared.acts.Tried.TheVariants as tried
+use Rattle.system_lock.proofs.GrowLaws.{tries_grow}
 use Rattle.system_lock.proofs.system.System.take_up.Goals as goal
 
 -- a resume spares all but its own process and those on its pipe
@@ -27,3 +32,15 @@ settle-requires-in-Ended g c =
 -- the book alone gives no call up
 pub returns-in-Ended-clause-given_up : goal.returns-in-Ended-clause-given_up
 returns-in-Ended-clause-given_up g c = λ is. absurd (c.in-Ended.ensures.not_lost is)
+
+pub invariant_of-self-in-Ended : goal.invariant_of-self-in-Ended
+invariant_of-self-in-Ended g c =
+    (c.settle-in-Ended.ensures.sound, search rules, search rules, search rules, c.add_exit.ensures c.self.inside.book c.resume.new.book c.args.seat c.in-Ended.ensures.event.0 c.self.invariant.4)
+
+pub returns-in-Still-clause-grows : goal.returns-in-Still-clause-grows
+returns-in-Still-clause-grows g c h p =
+    subst (λ (s : SystemState). IsPrefix s.book_is.history h) c.self.view_is (tries_grow c.self.inside.book c.resume.new.book c.args.seat (tried.Still c.in-Still.seat) c.in-Still.ensures.event h (c.wait_on.ensures.grows h p))
+
+pub returns-in-Ended-clause-grows : goal.returns-in-Ended-clause-grows
+returns-in-Ended-clause-grows g c =
+    subst (λ (s : SystemState). Grows s.book_is.history c.resume.new.book.history) c.self.view_is (tries_grow c.self.inside.book c.resume.new.book c.args.seat (tried.Ended c.in-Ended.ended) c.in-Ended.ensures.event)
