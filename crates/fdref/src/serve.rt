@@ -15,6 +15,7 @@ use logged_streams::writer::LoggedWriter;
 use run_core::report::{Report, RunFault, Session};
 use run_core::sessions::run_sessions;
 use run_core::source::Source;
+use run_history::front::{Begun, OfHistory};
 use session_core::end::End;
 use session_core::gate::OpenGate;
 use session_core::starter::Starter;
@@ -138,7 +139,7 @@ fn serve_with<
     S: Source + Send + 'static,
     K: Sink + Send + Drop + 'static,
     W: Write,
-    L: Ledgers + Send + Sync + 'static,
+    L: Ledgers + OfHistory + Send + Sync + 'static,
     T: Starter + Send + Drop + 'static,
 >(
     rt: Rt,
@@ -148,12 +149,14 @@ fn serve_with<
     sessions: usize,
     limits: Limits,
     blanks: Blanks,
+    begun: Begun,
     sink: K,
     writer: &mut LoggedWriter<W>,
 ) -> Served<K>
     requires failures { S.failures source.old + 1 < 2 ^ 64 }
     requires accepted { S.accepted source.old + sessions < 2 ^ 64 }
     requires ledgers { blanks ≡ L.names }
+    requires history { begun.seen.book ≡ L.book }
     requires limits { L.limits ≡ Some limits }
     requires sound { K.is_sound sink ≡ true }
     requires few { K.failures sink + 1 < 2 ^ 64 }
@@ -162,7 +165,7 @@ fn serve_with<
     ensures unstarted { result.end ≡ ended.NoThread → one_more (T.failures starter.old) ≤ T.failures starter.new }
 {
     let ran = run_sessions::<Rt, S, OpenGate, L, K, T>(
-        rt, alloc, starter, source, sessions, limits, blanks, OpenGate, sink,
+        rt, alloc, starter, source, sessions, limits, blanks, begun, OpenGate, sink,
     );
     let report = match ran {
         Ok(report) => report,
@@ -214,6 +217,7 @@ pub fn serve_on<
         sessions,
         limits,
         Blanks::new(),
+        Begun::new(),
         sink,
         writer,
     )

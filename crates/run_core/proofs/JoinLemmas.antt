@@ -69,39 +69,39 @@ counted_more : (connections : List Connection) (c : Connection) → counted_by (
 counted_more connections c = filter_map-append (λ (c : Connection). option_map (λ (s : SeatState). s.counted) c.seat) connections (c ∷ []) ∙ ap (λ l. counted_by connections ++ l) (counted_of_one c c.seat refl)
 
 -- one session more, with these shares of its seat
-joined_more : (limits : Option Limits) (always : Bool) (told : List Streams) (sessions : List ReportedSession) (shares new_shares : List Counted) (c : Connection) (s : ReportedSession)
-    → IsJoined limits always told sessions shares → ServesConnection limits always c s → new_shares ≡ shares ++ shares_of c.seat
-    → IsJoined limits always (told ++ at_start c ∷ []) (sessions ++ s ∷ []) new_shares
-joined_more limits always told sessions shares new_shares c s h one are = record {
-  connections = h.connections ++ c ∷ [];
-  told_are = map-append at_start h.connections (c ∷ []) ∙ ap (λ l. l ++ at_start c ∷ []) h.told_are;
-  each = along_more (ServesConnection limits always) h.connections sessions c s h.each one;
-  shares_are = are ∙ (ap (λ l. l ++ shares_of c.seat) h.shares_are ∙ sym (counted_more h.connections c));
+joined_more : (limits : Option Limits) (h : List Record) (always : Bool) (told : List Streams) (sessions : List ReportedSession) (shares new_shares : List Counted) (c : Connection) (s : ReportedSession)
+    → IsJoined limits h always told sessions shares → ServesConnection limits h always c s → new_shares ≡ shares ++ shares_of c.seat
+    → IsJoined limits h always (told ++ at_start c ∷ []) (sessions ++ s ∷ []) new_shares
+joined_more limits h always told sessions shares new_shares c s all one are = record {
+  connections = all.connections ++ c ∷ [];
+  told_are = map-append at_start all.connections (c ∷ []) ∙ ap (λ l. l ++ at_start c ∷ []) all.told_are;
+  each = along_more (ServesConnection limits h always) all.connections sessions c s all.each one;
+  shares_are = are ∙ (ap (λ l. l ++ shares_of c.seat) all.shares_are ∙ sym (counted_more all.connections c));
 }
 
 -- the next thread was joined
 -- no session was joined
-pub joined_none : (limits : Option Limits) (always : Bool) (sessions : List ReportedSession) (shares : List Counted) → length sessions ≡ 0 → length shares ≡ 0 → IsJoined limits always [] sessions shares
-joined_none limits always [] [] none also = record { connections = []; told_are = refl; each = tt; shares_are = refl }
-joined_none limits always [] (one ∷ more) none also = absurd cc
-joined_none limits always (one ∷ more) shares none also = absurd cc
+pub joined_none : (limits : Option Limits) (h : List Record) (always : Bool) (sessions : List ReportedSession) (shares : List Counted) → length sessions ≡ 0 → length shares ≡ 0 → IsJoined limits h always [] sessions shares
+joined_none limits h always [] [] none also = record { connections = []; told_are = refl; each = tt; shares_are = refl }
+joined_none limits h always [] (one ∷ more) none also = absurd cc
+joined_none limits h always (one ∷ more) shares none also = absurd cc
 
-pub joined_next : {T : Type 0} (limits : Option Limits) (always : Bool) (reader writer : T → Option (List ℕ)) (yielded : List T) (thread : T)
+pub joined_next : {T : Type 0} (limits : Option Limits) (h : List Record) (always : Bool) (reader writer : T → Option (List ℕ)) (yielded : List T) (thread : T)
     (sessions new_sessions : List ReportedSession) (shares new_shares : List Counted) (seat : Option SeatState) (s : ReportedSession) (served : SessionState)
-    → IsJoined limits always (map (λ t. streams (reader t) (writer t)) yielded) sessions shares → IsProcessOf seat s.process → IsBlank (writer thread) → CountsItsOwn seat → with_seat seat s ≡ served → ServesInRun limits always (reader thread) (writer thread) served
+    → IsJoined limits h always (map (λ t. streams (reader t) (writer t)) yielded) sessions shares → IsProcessOf seat s.process → IsBlank (writer thread) → CountsItsOwn seat → with_seat seat s ≡ served → ServesInRun limits h always (reader thread) (writer thread) served
     → new_sessions ≡ sessions ++ s ∷ [] → new_shares ≡ shares ++ shares_of seat
-    → IsJoined limits always (map (λ t. streams (reader t) (writer t)) (yielded ++ thread ∷ [])) new_sessions new_shares
-joined_next {T} limits always reader writer yielded thread sessions new_sessions shares new_shares seat s served h of blank own same serves more shares_more =
+    → IsJoined limits h always (map (λ t. streams (reader t) (writer t)) (yielded ++ thread ∷ [])) new_sessions new_shares
+joined_next {T} limits h always reader writer yielded thread sessions new_sessions shares new_shares seat s served those of blank own same serves more shares_more =
     let c : Connection = record { from = reader thread; base = writer thread; seat = seat } in
-    let one : ServesConnection limits always c s = record { process_is = of; blank = blank; serves = subst (ServesInRun limits always (reader thread) (writer thread)) (sym same) serves; own = own } in
-    let all = joined_more limits always (map (λ t. streams (reader t) (writer t)) yielded) sessions shares new_shares c s h one shares_more in
-    let told = subst (λ (ss : List ReportedSession). IsJoined limits always (map (λ t. streams (reader t) (writer t)) yielded ++ streams (reader thread) (writer thread) ∷ []) ss new_shares) (sym more) all in
-    subst (λ (ts : List Streams). IsJoined limits always ts new_sessions new_shares) (sym (map-append (λ (t : T). streams (reader t) (writer t)) yielded (thread ∷ []))) told
+    let one : ServesConnection limits h always c s = record { process_is = of; blank = blank; serves = subst (ServesInRun limits h always (reader thread) (writer thread)) (sym same) serves; own = own } in
+    let all = joined_more limits h always (map (λ t. streams (reader t) (writer t)) yielded) sessions shares new_shares c s those one shares_more in
+    let told = subst (λ (ss : List ReportedSession). IsJoined limits h always (map (λ t. streams (reader t) (writer t)) yielded ++ streams (reader thread) (writer thread) ∷ []) ss new_shares) (sym more) all in
+    subst (λ (ts : List Streams). IsJoined limits h always ts new_sessions new_shares) (sym (map-append (λ (t : T). streams (reader t) (writer t)) yielded (thread ∷ []))) told
 
 -- all threads were joined
-pub joined_all : {T : Type 0} (limits : Option Limits) (always : Bool) (connection : T → Streams) (yielded all : List T) (sessions : List ReportedSession) (shares : List Counted)
-    → yielded ≡ all → IsJoined limits always (map connection yielded) sessions shares → IsJoined limits always (map connection all) sessions shares
-joined_all {T} limits always connection yielded all sessions shares is h = subst (λ (ts : List T). IsJoined limits always (map connection ts) sessions shares) is h
+pub joined_all : {T : Type 0} (limits : Option Limits) (h : List Record) (always : Bool) (connection : T → Streams) (yielded all : List T) (sessions : List ReportedSession) (shares : List Counted)
+    → yielded ≡ all → IsJoined limits h always (map connection yielded) sessions shares → IsJoined limits h always (map connection all) sessions shares
+joined_all {T} limits h always connection yielded all sessions shares is those = subst (λ (ts : List T). IsJoined limits h always (map connection ts) sessions shares) is those
 
 -- ---- what was shut
 
@@ -139,7 +139,7 @@ run_of told limits lacked book house ends shares received trace those got traced
     record {
       connections = ended.joined.connections;
       gives = subst (λ (ts : List Streams). GivesConnections told.coming told.later ts) (sym ended.joined.told_are) (ended.gives whole);
-      each = subst (λ (es : List ReportedSession). ServesEach (Some told.limits_are) told.always ended.joined.connections es) (sym those) (subst (λ (l : Option Limits). ServesEach l told.always ended.joined.connections ends) within ended.joined.each);
+      each = subst (λ (es : List ReportedSession). ServesEach (Some told.limits_are) book.history told.always ended.joined.connections es) (sym those) (subst (λ (l : Option Limits). ServesEach l book.history told.always ended.joined.connections ends) within ended.joined.each);
       before = ended.before;
       book = book;
       house = house;

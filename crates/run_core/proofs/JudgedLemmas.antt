@@ -77,15 +77,15 @@ of_seat : (seat : Option SeatState) → SeatFits seat → ActsFit (held_by (opti
 of_seat None h = tt
 of_seat (Some seat) h = h
 
-session_fits : ActsOfSeatsFit → (limits : Option Limits) (always : Bool) (c : Connection) (s : ReportedSession) → ServesConnection limits always c s → ActsFit (held_by s.process).receipts
-session_fits acts_fit limits always c s h =
+session_fits : ActsOfSeatsFit → (limits : Option Limits) (history : List Record) (always : Bool) (c : Connection) (s : ReportedSession) → ServesConnection limits history always c s → ActsFit (held_by s.process).receipts
+session_fits acts_fit limits history always c s h =
     subst (λ (process : Option Held). ActsFit (held_by process).receipts) (sym h.process_is) (of_seat c.seat (acts_fit always c.from c.base (with_seat c.seat s) h.serves.serves.serves))
 
-sessions_fit : ActsOfSeatsFit → (limits : Option Limits) (always : Bool) (cs : List Connection) (ss : List ReportedSession) → AllZip (ServesConnection limits always) cs ss → AllFit (map (λ s. held_by s.process) ss)
-sessions_fit acts_fit limits always [] [] h = tt
-sessions_fit acts_fit limits always [] (s ∷ ss) h = absurd h
-sessions_fit acts_fit limits always (c ∷ cs) [] h = absurd h
-sessions_fit acts_fit limits always (c ∷ cs) (s ∷ ss) h = (session_fits acts_fit limits always c s h.0, sessions_fit acts_fit limits always cs ss h.1)
+sessions_fit : ActsOfSeatsFit → (limits : Option Limits) (history : List Record) (always : Bool) (cs : List Connection) (ss : List ReportedSession) → AllZip (ServesConnection limits history always) cs ss → AllFit (map (λ s. held_by s.process) ss)
+sessions_fit acts_fit limits history always [] [] h = tt
+sessions_fit acts_fit limits history always [] (s ∷ ss) h = absurd h
+sessions_fit acts_fit limits history always (c ∷ cs) [] h = absurd h
+sessions_fit acts_fit limits history always (c ∷ cs) (s ∷ ss) h = (session_fits acts_fit limits history always c s h.0, sessions_fit acts_fit limits history always cs ss h.1)
 
 -- exits and the closing have no fields
 exits_fit : (place : ℕ) (processes : List ℕ) → ActsFit (receipts_from place (map exit_record processes ++ closing_record ∷ []))
@@ -109,7 +109,7 @@ one_wanted p len below = grind (arith, below)
 each_fits : ActsOfSeatsFit → (told : RunTold) (h : IsRun told) → (p : ℕ) → p < length h.book.history → FitsAt h.book.history p
 each_fits acts_fit told h p below =
     let agrees = h.run.all p in
-    let sessions = sessions_fit acts_fit (Some told.limits_are) told.always h.connections told.ends h.each in
+    let sessions = sessions_fit acts_fit (Some told.limits_are) h.book.history told.always h.connections told.ends h.each in
     let house = house_fits (length h.before.history) (world_now h.before) h.house.receipts h.closing.receipts_are in
     let held = map (λ (s : ReportedSession). held_by s.process) told.ends in
     let once = agrees.sound.covered ∙ one_wanted p (length h.book.history) below in

@@ -9,6 +9,7 @@ use Rattle.record_book.specs.Seat.{SeatState}
 use Rattle.call_types.specs.declared.act.Record.{Record}
 use Rattle.call_types.specs.declared.act.TheConstants.{HOUSE}
 use Rattle.call_types.specs.declared.limits.Limits.{Limits}
+use Rattle.run_history.specs.Fronts.{Since}
 use Rattle.run_core.specs.Receipts.{Held, Agrees, held_by}
 use Rattle.run_core.specs.Traced.{TraceTold, IsTold}
 use Rattle.record_book.specs.Book.{BookState, world_now}
@@ -26,7 +27,7 @@ use Rattle.session_core.specs.declared.told.Told.{Told}
 use Rattle.session_core.specs.Refusals.{ServesUnder}
 use Rattle.session_core.specs.Said.{CutSaid, EndSaid}
 use Rattle.session_core.specs.Served.{SessionState}
-use Rattle.system_lock.specs.Says.{IsEnded, IsNotOpened, IsRefused}
+use Rattle.system_lock.specs.Says.{IsEnded, said_under}
 use Rattle.logged_streams.specs.Streams.{LoggedReaderState, LoggedWriterState}
 use Rattle.request_pump.specs.Pushes.{PushState}
 
@@ -77,12 +78,17 @@ is_blank (Some (byte ∷ bytes)) = false
 abbrev pub IsBlank : Option (List ℕ) → Type 0
 IsBlank contents = is_blank contents ≡ true
 
--- a session was served under the lock of a run with these limits: it did what is promised of any session; it ends as full or foreign,
--- refuses a request, and leaves off in a call that waits only where that was due in some legal book with these limits
-pub record ServesInRun (limits : Option Limits) (always : Bool) (from base : Option (List ℕ)) (s : SessionState) : Type 0 where
-  pub serves : ServesUnder (IsNotOpened limits) (IsRefused limits) (IsEnded limits) always from base s
-  pub said : EndSaid (IsNotOpened limits) (IsEnded limits) s.seat s.end_is
-  pub given_up : CutSaid (IsEnded limits) s.seat s.answers s.end_is
+-- a session was served under the lock of a run with these limits and this history: it did what is promised of any session; it ends as full
+-- or foreign, refuses a request, and leaves off in a call that waits only where that was due once the run had come so far: in a legal book
+-- with these limits whose records are the first of this history
+pub record ServesInRun (limits : Option Limits) (h : List Record) (always : Bool) (from base : Option (List ℕ)) (s : SessionState) : Type 0 where
+  pub serves : ServesUnder (said_under limits h) always from base s
+  pub said : EndSaid (said_under limits h) s.seat s.end_is
+  pub given_up : CutSaid (IsEnded limits h) s.seat s.answers s.end_is
+
+-- the same in each run with these limits whose history begins with these records
+pub record ServesSince (limits : Option Limits) (front : List Record) (always : Bool) (from base : Option (List ℕ)) (s : SessionState) : Type 0 where
+  pub serves : Since front (λ h. ServesInRun limits h always from base s)
 
 -- a connection that was served: what its reader had and its writer held at the start, and the seat of its process, if there is one
 pub record Connection : Type 0 where
@@ -99,17 +105,18 @@ abbrev pub CountsItsOwn : Option SeatState → Type 0
 CountsItsOwn None = Unit {0}
 CountsItsOwn (Some s) = CountsOwn s.counted s.receipts
 
--- a session of a report served this connection in a run with these limits, from the first byte of its reader on and with a writer that held
--- nothing, under a gate that always says yes or under any other; its process is that of the connection's seat, which counts its own receipts
-pub record ServesConnection (limits : Option Limits) (always : Bool) (c : Connection) (session : ReportedSession) : Type 0 where
+-- a session of a report served this connection in a run with these limits and this history, from the first byte of its reader on and with
+-- a writer that held nothing, under a gate that always says yes or under any other; its process is that of the connection's seat, which
+-- counts its own receipts
+pub record ServesConnection (limits : Option Limits) (h : List Record) (always : Bool) (c : Connection) (session : ReportedSession) : Type 0 where
   pub process_is : IsProcessOf c.seat session.process
   pub blank : IsBlank c.base
-  pub serves : ServesInRun limits always c.from c.base (with_seat c.seat session)
+  pub serves : ServesInRun limits h always c.from c.base (with_seat c.seat session)
   pub own : CountsItsOwn c.seat
 
 -- the sessions served the connections, one each and in order
-abbrev pub ServesEach : Option Limits → Bool → List Connection → List ReportedSession → Type 0
-ServesEach limits always connections sessions = AllZip (ServesConnection limits always) connections sessions
+abbrev pub ServesEach : Option Limits → List Record → Bool → List Connection → List ReportedSession → Type 0
+ServesEach limits h always connections sessions = AllZip (ServesConnection limits h always) connections sessions
 
 -- what the seats of connections count
 abbrev pub counted_by : List Connection → List Counted
@@ -187,9 +194,9 @@ pub record RunTold : Type 0 where
 pub record IsRun (told : RunTold) : Type 0 where
   pub connections : List Connection
   pub gives : GivesConnections told.coming told.later (map at_start connections)
-  pub each : ServesEach (Some told.limits_are) told.always connections told.ends
   pub before : BookState
   pub book : BookState
+  pub each : ServesEach (Some told.limits_are) book.history told.always connections told.ends
   pub house : SeatState
   pub closing : IsClosing before book house
   pub run : IsRunOf told.limits_are told.records told.taken told.given book house (counted_by connections) (map (λ s. held_by s.process) told.ends) told.received

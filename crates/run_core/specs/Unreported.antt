@@ -54,7 +54,7 @@ IsNoWant other = Unit {0}
 pub record IsLeft (told : LeftTold) (why : RunFault) : Type 0 where
   pub connections : List Connection
   pub gives : IsNoWant why → GivesConnections told.coming told.later (map at_start connections)
-  pub each : ServesEach (Some told.limits_are) told.always connections told.ends
+  pub each : ServesEach (Some told.limits_are) told.book.history told.always connections told.ends
   pub before : BookState
   pub limits_are : told.book.limits ≡ told.limits_are
   pub closing : IsClosing before told.book told.house

@@ -4,10 +4,11 @@ ghost use Rattle.std.specs.Prelude.{◌≡◌, ◌≤◌, ◌<◌, ◌+◌, ◌^
 ghost use Rattle.std.specs.Option.{option_map};
 ghost use Rattle.std.specs.Arc.{arc_value};
 ghost use Rattle.rtrb.specs.Ring.{received};
+ghost use Rattle.run_history.specs.Fronts.{Grows, Since};
 ghost use Rattle.run_core.specs.Judged.{IsJudged};
 ghost use Rattle.run_core.specs.Proved.Laws.{FlagsDecideAll};
 ghost use Rattle.run_core.specs.Receipts.{held_by};
-ghost use Rattle.run_core.specs.Run.{AreShut, IsRun, IsRunOf, IsBlank, IsProcessOf, FailsIfFewer, GivesConnections, ServesInRun, CountsItsOwn, held_in, streams, with_seat};
+ghost use Rattle.run_core.specs.Run.{AreShut, IsRun, IsRunOf, IsBlank, IsProcessOf, FailsIfFewer, GivesConnections, ServesSince, CountsItsOwn, held_in, streams, with_seat};
 ghost use Rattle.run_core.specs.Proved.Joining.{HasEnded, IsJoined};
 ghost use Rattle.logged_streams.specs.Streams.{one_more};
 ghost use Rattle.session_core.specs.Served.{failures_after};
@@ -28,6 +29,7 @@ use crate::tracing::{Done, Traces, start_trace};
 use byte_ledger::ledgers::{Blanks, Ledgers};
 use byte_ledger::tallies::Shares;
 use call_types::limits::Limits;
+use run_history::front::{Begun, Front, OfHistory};
 use session_core::connection::Connection;
 use session_core::gate::Gate;
 use session_core::serve::{Served, serve};
@@ -36,20 +38,22 @@ use std::alloc::{AllocError, Global};
 use std::io::{Read, Write};
 use std::snapshot::Snapshot;
 use std::sync::{Arc, Wait};
+use std::thread;
 use std::thread::{Promise, PromisedHandle, Threads};
 use std::time::Clock;
 use system_lock::lock::SystemLock;
+use system_lock::system::System;
 use trace_ring::trace_ring::TraceEnd;
 use trace_writer::sink::Sink;
 
 /// What all sessions of a run share: the lock round its book, and the gate that is asked before an answer is written.
 #[derive(Drop)]
-struct Shared<G: Gate, L: Ledgers> {
+struct Shared<G: Gate, L: Ledgers + OfHistory> {
     lock: Arc<SystemLock<L>>,
     gate: Arc<G>,
 }
 
-impl<G: Gate, L: Ledgers> Shared<G, L> {
+impl<G: Gate, L: Ledgers + OfHistory> Shared<G, L> {
     /// The same, for one session.
     fn share(&self) -> Result<Self, AllocError> {
         Ok(Shared {
@@ -71,20 +75,22 @@ pub(crate) struct Serving<R: Read, W: Write, G: Gate, T: Starter> {
     ghost fresh: { T.failures starter.value ≡ 0 },
 }
 
-/// A session that is over, and the starter of its thread.
+/// A session that is over, what it knows of the run's history, and the starter of its thread.
 #[derive(Drop)]
-pub(crate) struct Over<R: Read, W: Write, L: Ledgers, T: Starter> {
+pub(crate) struct Over<R: Read, W: Write, L: Ledgers + OfHistory, T: Starter> {
     served: Served<R, W, L>,
+    known: Front<L>,
     starter: T,
 }
 
-impl<R: Read, W: Write + Connection, G: Gate, L: Ledgers, T: Starter> Promise<Over<R, W, L, T>>
-    for Serving<R, W, G, T> {
+impl<R: Read, W: Write + Connection, G: Gate, L: Ledgers + OfHistory, T: Starter> Promise<
+    Over<R, W, L, T>,
+> for Serving<R, W, G, T> {
     ghost use Rattle.std.specs.Prelude.{◌≡◌};
     ghost use Rattle.session_core.specs.Served.{failures_after};
-    ghost use Rattle.run_core.specs.Run.{ServesInRun};
+    ghost use Rattle.run_core.specs.Run.{ServesSince};
 
-    ghost kept_by = { λ p over. ServesInRun L.limits G.is_open (R.remaining p.reader.value) (W.contents p.writer.value) over.served × (T.failures over.starter ≡ failures_after over.served.end_is (T.failures p.starter.value)) × W.was_shut over.served.writer.contents };
+    ghost kept_by = { λ p over. ServesSince L.limits over.known G.is_open (R.remaining p.reader.value) (W.contents p.writer.value) over.served × (T.failures over.starter ≡ failures_after over.served.end_is (T.failures p.starter.value)) × W.was_shut over.served.writer.contents };
 }
 
 impl<R: Read, W: Write, G: Gate, T: Starter> Serving<R, W, G, T> {
@@ -113,7 +119,7 @@ fn serve_connection<
     Rt: Threads + Wait + Copy + Drop + Send + Sync + 'static,
     S: Source + Send + 'static,
     G: Gate + Send + Sync + 'static,
-    L: Ledgers + Send + Sync + 'static,
+    L: Ledgers + OfHistory + Send + Sync + 'static,
     T: Starter + Drop,
 >(
     rt: Rt,
@@ -125,24 +131,30 @@ fn serve_connection<
     writer: S::Writer,
     session: u64,
 ) -> Over<S::Reader, S::Writer, L, T>
-    ensures serves { ServesInRun L.limits G.is_open (S.Reader.Read.remaining reader) (S.Writer.Write.contents writer) result.served }
+    ensures serves { ServesSince L.limits result.known G.is_open (S.Reader.Read.remaining reader) (S.Writer.Write.contents writer) result.served }
     ensures starts { T.failures result.starter ≡ failures_after result.served.end_is (T.failures starter) }
     ensures shut { S.Writer.Connection.was_shut result.served.writer.contents }
 {
     let mut starter = starter;
     let admission = lock.admit();
-    let served = serve(
+    let front = lock.front(&rt);
+    let (served, known) = serve(
         rt,
         alloc,
         &mut starter,
         reader,
         writer,
         lock,
+        front,
         admission,
         session,
         gate,
     );
-    Over { served, starter }
+    Over {
+        served,
+        known,
+        starter,
+    }
 }
 
 /// Serves a connection in a thread of its own, if one can be started.
@@ -150,7 +162,7 @@ fn start_session<
     Rt: Threads + Wait + Copy + Drop + Send + Sync + 'static,
     S: Source + Send + 'static,
     G: Gate + Send + Sync + 'static,
-    L: Ledgers + Send + Sync + 'static,
+    L: Ledgers + OfHistory + Send + Sync + 'static,
     T: Starter + Send + Drop + 'static,
 >(
     rt: Rt,
@@ -211,7 +223,7 @@ fn next_session<
     Rt: Threads + Wait + Copy + Drop + Send + Sync + 'static,
     S: Source + Send + 'static,
     G: Gate + Send + Sync + 'static,
-    L: Ledgers + Send + Sync + 'static,
+    L: Ledgers + OfHistory + Send + Sync + 'static,
     T: Starter + Send + Drop + 'static,
 >(
     rt: Rt,
@@ -250,7 +262,7 @@ fn next_session<
 
 /// The sessions that were started, and what was wanting for a connection that was accepted after them, if there was one.
 #[derive(Drop)]
-struct Started<R: Read, W: Write + Connection, G: Gate, L: Ledgers, T: Starter> {
+struct Started<R: Read, W: Write + Connection, G: Gate, L: Ledgers + OfHistory, T: Starter> {
     running: Vec<Running<R, W, G, L, T>>,
     want: Option<Want>,
 }
@@ -260,7 +272,7 @@ fn start_all<
     Rt: Threads + Wait + Copy + Drop + Send + Sync + 'static,
     S: Source + Send + 'static,
     G: Gate + Send + Sync + 'static,
-    L: Ledgers + Send + Sync + 'static,
+    L: Ledgers + OfHistory + Send + Sync + 'static,
     T: Starter + Send + Drop + 'static,
 >(
     rt: Rt,
@@ -349,17 +361,19 @@ fn part<R: Read + Drop, W: Write + Drop, L: Ledgers>(
     (session, shares)
 }
 
-/// Waits until all sessions have ended, parts each from its seat, and counts what their starters could not start. There is room for them.
+/// Waits until all sessions have ended, parts each from its seat, learns what it knows of the run's history, and counts what their starters
+/// could not start. There is room for them.
 fn join_all<
     Rt: Threads,
     R: Read + Drop,
     W: Write + Connection + Drop,
     G: Gate,
-    L: Ledgers,
+    L: Ledgers + OfHistory,
     T: Starter + Drop,
 >(
     rt: &Rt,
     starter: &mut T,
+    front: &mut Front<L>,
     running: Vec<Running<R, W, G, L, T>>,
     room: Parted<R, W, L>,
 ) -> Parted<R, W, L>
@@ -367,7 +381,7 @@ fn join_all<
     requires shares { vec_len room.shares + vec_len running ≤ vec_capacity room.shares }
     requires empty { vec_len room.sessions ≡ 0 }
     requires no_shares { vec_len room.shares ≡ 0 }
-    ensures joined { IsJoined L.limits G.is_open (map (λ thread. streams (R.remaining thread.promise.reader.value) (W.contents thread.promise.writer.value)) running.items) result.sessions.items result.shares.items }
+    ensures joined { Since front.new (λ h. IsJoined L.limits h G.is_open (map (λ thread. streams (R.remaining thread.promise.reader.value) (W.contents thread.promise.writer.value)) running.items) result.sessions.items result.shares.items) }
     ensures starts { T.failures starter.new ≡ failures_with result.sessions.items (T.failures starter.old) }
     ensures all { vec_len result.sessions ≡ vec_len running }
     ensures shut { AreShut W.was_shut result.sessions.items }
@@ -379,9 +393,12 @@ fn join_all<
     for thread in running {
         let Over {
             served,
+            known,
             starter: own,
         } = thread.join(rt);
         starter.absorb(own);
+        front.catch_up(&known);
+        drop(known);
         let (session, counted) = part(served);
         sessions.push_reserved(session);
         match counted {
@@ -394,16 +411,19 @@ fn join_all<
 
 /// Room for all sessions of a run: while they go on, and when they are over.
 #[derive(Drop)]
-struct Rooms<R: Read, W: Write + Connection, G: Gate, L: Ledgers, T: Starter> {
+struct Rooms<R: Read, W: Write + Connection, G: Gate, L: Ledgers + OfHistory, T: Starter> {
     running: Vec<Running<R, W, G, L, T>>,
     ends: Parted<R, W, L>,
 }
 
 /// Makes room for so many sessions.
-fn rooms_for<R: Read + Drop, W: Write + Connection + Drop, G: Gate, L: Ledgers, T: Starter + Drop>(
-    alloc: Global,
-    sessions: usize,
-) -> Result<Rooms<R, W, G, L, T>, AllocError>
+fn rooms_for<
+    R: Read + Drop,
+    W: Write + Connection + Drop,
+    G: Gate,
+    L: Ledgers + OfHistory,
+    T: Starter + Drop,
+>(alloc: Global, sessions: usize) -> Result<Rooms<R, W, G, L, T>, AllocError>
     ensures running { IfOk result (λ rooms. (vec_len rooms.running ≡ 0) × (sessions ≤ vec_capacity rooms.running)) }
     ensures ends { IfOk result (λ rooms. (vec_len rooms.ends.sessions ≡ 0) × (sessions ≤ vec_capacity rooms.ends.sessions)) }
     ensures shares { IfOk result (λ rooms. (vec_len rooms.ends.shares ≡ 0) × (sessions ≤ vec_capacity rooms.ends.shares)) }
@@ -419,17 +439,19 @@ fn rooms_for<R: Read + Drop, W: Write + Connection + Drop, G: Gate, L: Ledgers, 
 }
 
 /// What the sessions of a new run share, and the end of its ring that gives its records to the trace.
-fn shared_by<G: Gate, L: Ledgers>(
+fn shared_by<G: Gate, L: Ledgers + OfHistory>(
     alloc: Global,
     limits: Limits,
     blanks: Blanks,
+    begun: Begun,
     gate: G,
 ) -> Result<(Shared<G, L>, TraceEnd), AllocError>
     requires ledgers { blanks ≡ L.names }
+    requires history { begun.seen.book ≡ L.book }
     requires limits { L.limits ≡ Some limits }
     ensures { IfOk result (λ pair. received pair.1 ≡ []) }
 {
-    let (lock, end) = SystemLock::new(alloc, limits, blanks)?;
+    let (lock, end) = SystemLock::new(alloc, limits, blanks, begun)?;
     let shared = Shared {
         lock: Arc::new(alloc, lock)?,
         gate: Arc::new(alloc, gate)?,
@@ -446,13 +468,32 @@ struct Ended<R: Read, W: Write, L: Ledgers> {
     want: Option<Want>,
 }
 
+/// The same system, once it is seen that its book has all records of a front. It waits for ever where it has not: that does not happen,
+/// since only the system adds to the history.
+fn that_has_all<Rt: Wait, L: Ledgers + OfHistory>(
+    rt: &Rt,
+    system: System<L>,
+    front: &Front<L>,
+) -> System<L>
+    ensures same { result ≡ system }
+    ensures has { Grows front.now result.book_is.history }
+{
+    if system.front().covers(front) {
+        return system;
+    }
+    for _ in rt.forever() {
+        thread::yield_now();
+    }
+    unreachable!()
+}
+
 /// Accepts so many connections, serves each in a thread of its own, and closes the run when all have ended. No thread goes on then, and
 /// no record is put into the ring any more.
 fn serve_all<
     Rt: Threads + Wait + Copy + Drop + Send + Sync + 'static,
     S: Source + Send + 'static,
     G: Gate + Send + Sync + 'static,
-    L: Ledgers + Send + Sync + 'static,
+    L: Ledgers + OfHistory + Send + Sync + 'static,
     T: Starter + Send + Drop + 'static,
 >(
     rt: Rt,
@@ -479,8 +520,10 @@ fn serve_all<
     let Rooms { running, ends } = rooms;
     let started = start_all(rt, alloc, starter, &shared, source, sessions, running);
     let Started { running, want } = started;
-    let parted = join_all(&rt, starter, running, ends);
-    let closed = close(unshared(&rt, shared.lock).take().into_book());
+    let mut front = shared.lock.front(&rt);
+    let parted = join_all(&rt, starter, &mut front, running, ends);
+    let system = unshared(&rt, shared.lock).take();
+    let closed = close(that_has_all(&rt, system, &front).into_book());
     Ended {
         closed,
         parted,
@@ -561,7 +604,7 @@ fn serve_traced<
     Rt: Threads + Wait + Clock + Copy + Drop + Send + Sync + 'static,
     S: Source + Send + 'static,
     G: Gate + Send + Sync + 'static,
-    L: Ledgers + Send + Sync + 'static,
+    L: Ledgers + OfHistory + Send + Sync + 'static,
     K: Sink + Send + Drop + 'static,
     T: Starter + Send + Drop + 'static,
 >(
@@ -615,7 +658,7 @@ pub fn run_sessions<
     Rt: Threads + Wait + Clock + Copy + Drop + Send + Sync + 'static,
     S: Source + Send + 'static,
     G: Gate + Send + Sync + 'static,
-    L: Ledgers + Send + Sync + 'static,
+    L: Ledgers + OfHistory + Send + Sync + 'static,
     K: Sink + Send + Drop + 'static,
     T: Starter + Send + Drop + 'static,
 >(
@@ -626,12 +669,14 @@ pub fn run_sessions<
     sessions: usize,
     limits: Limits,
     blanks: Blanks,
+    begun: Begun,
     gate: G,
     sink: K,
 ) -> Result<Report<S::Reader, S::Writer, K>, Unreported<S::Reader, S::Writer, K, L>>
     requires failures { S.failures source.old + 1 < 2 ^ 64 }
     requires accepted { S.accepted source.old + sessions < 2 ^ 64 }
     requires ledgers { blanks ≡ L.names }
+    requires history { begun.seen.book ≡ L.book }
     requires limits { L.limits ≡ Some limits }
     requires sound { K.is_sound sink ≡ true }
     requires few { K.failures sink + 1 < 2 ^ 64 }
@@ -650,7 +695,7 @@ pub fn run_sessions<
     ensures spelled { IfOk result (λ report. report.traced.fault ≡ Some trace_fault.Unspellable → ⊥) }
 {
     let rooms = rooms_for(alloc, sessions)?;
-    let (shared, end) = shared_by::<G, L>(alloc, limits, blanks, gate)?;
+    let (shared, end) = shared_by::<G, L>(alloc, limits, blanks, begun, gate)?;
     match start_trace(rt, alloc, starter, end, limits, sink) {
         Ok(traces) => serve_traced(
             rt, alloc, starter, shared, source, sessions, rooms, limits, traces,

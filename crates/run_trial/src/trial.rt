@@ -9,6 +9,7 @@ use byte_ledger::ledgers::{Blanks, Ledgers};
 use call_types::limits::Limits;
 use run_core::report::Report;
 use run_core::sessions::run_sessions;
+use run_history::front::{Begun, OfHistory};
 use session_core::memory::{MemoryReader, MemoryWriter};
 use session_core::starter::SystemThreads;
 use std::alloc::Global;
@@ -20,14 +21,16 @@ use trace_writer::memory::{Manner, MemorySink};
 /// The report of the run, counted by these ledgers.
 pub(crate) fn ran<
     Rt: Threads + Wait + Clock + Copy + Drop + Send + Sync + 'static,
-    L: Ledgers + Send + Sync + 'static,
+    L: Ledgers + OfHistory + Send + Sync + 'static,
 >(
     rt: Rt,
     alloc: Global,
     limits: Limits,
     blanks: Blanks,
+    begun: Begun,
 ) -> Result<Report<MemoryReader, MemoryWriter, MemorySink>, TrialFault>
     requires ledgers { blanks ≡ L.names }
+    requires history { begun.seen.book ≡ L.book }
     requires limits { L.limits ≡ Some limits }
 {
     let mut source = Waiting::new(alloc)?;
@@ -39,6 +42,7 @@ pub(crate) fn ran<
         SESSIONS,
         limits,
         blanks,
+        begun,
         OthersFirst::new(rt),
         MemorySink::new(alloc, Manner::sound()),
     );

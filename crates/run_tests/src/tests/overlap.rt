@@ -8,6 +8,7 @@ use call_types::limits::Limits;
 use run_core::report::{Report, Session};
 use run_core::sessions::run_sessions;
 use run_core::source::{AcceptFailed, Source};
+use run_history::front::{Begun, OfHistory};
 use session_core::connection::Connection;
 use session_core::end::End;
 use session_core::gate::{Gate, OpenGate};
@@ -102,7 +103,7 @@ fn report_of<
     R: Read + Send + Drop + 'static,
     W: Write + Connection + Send + Drop + 'static,
     G: Gate + Send + Sync + 'static,
-    L: Ledgers + Send + Sync + 'static,
+    L: Ledgers + OfHistory + Send + Sync + 'static,
 >(
     rt: Rt,
     alloc: Global,
@@ -110,9 +111,11 @@ fn report_of<
     gate: G,
     limits: Limits,
     blanks: Blanks,
+    begun: Begun,
     manner: Manner,
 ) -> Option<Report<R, W, MemorySink>>
     requires ledgers { blanks ≡ L.names }
+    requires history { begun.seen.book ≡ L.book }
     requires limits { L.limits ≡ Some limits }
     requires blank { All (λ connection. IsBlank (W.contents connection.1)) connections.items }
 {
@@ -130,6 +133,7 @@ fn report_of<
         sessions,
         limits,
         blanks,
+        begun,
         gate,
         MemorySink::new(alloc, manner),
     );
@@ -155,7 +159,7 @@ fn is_whole_under<
     R: Read + Send + Drop + 'static,
     W: Write + Connection + Send + Drop + 'static,
     G: Gate + Send + Sync + 'static,
-    L: Ledgers + Send + Sync + 'static,
+    L: Ledgers + OfHistory + Send + Sync + 'static,
 >(
     rt: Rt,
     alloc: Global,
@@ -163,8 +167,10 @@ fn is_whole_under<
     gate: G,
     limits: Limits,
     blanks: Blanks,
+    begun: Begun,
 ) -> Option<bool>
     requires ledgers { blanks ≡ L.names }
+    requires history { begun.seen.book ≡ L.book }
     requires limits { L.limits ≡ Some limits }
     requires blank { All (λ connection. IsBlank (W.contents connection.1)) connections.items }
 {
@@ -175,6 +181,7 @@ fn is_whole_under<
         gate,
         limits,
         blanks,
+        begun,
         Manner::sound(),
     ) {
         Some(report) => Some(are_whole(&report)),
@@ -359,15 +366,17 @@ fn gate_of(says: Says, said: &Arc<Said>) -> Result<NotedGate, AllocError> {
 /// Whether a run of two sessions is whole whose first answer waits for the other session.
 fn is_whole_others_first<
     Rt: Threads + Wait + Clock + Copy + Drop + Send + Sync + 'static,
-    L: Ledgers + Send + Sync + 'static,
+    L: Ledgers + OfHistory + Send + Sync + 'static,
 >(
     rt: Rt,
     alloc: Global,
     said: &Arc<Said>,
     limits: Limits,
     blanks: Blanks,
+    begun: Begun,
 ) -> Result<Option<bool>, AllocError>
     requires ledgers { blanks ≡ L.names }
+    requires history { begun.seen.book ≡ L.book }
     requires limits { L.limits ≡ Some limits }
 {
     let gate = gate_of(Says::OthersFirst, said)?;
@@ -379,19 +388,23 @@ fn is_whole_others_first<
         gate,
         limits,
         blanks,
+        begun,
     ))
 }
 
 /// One run whose first answer waits for the other session.
 fn waits_at_its_gate<
     Rt: Abort + Threads + Wait + Clock + Copy + Drop + Send + Sync + 'static,
-    L: Ledgers + Send + Sync + 'static,
->(rt: Rt, alloc: Global, limits: Limits, blanks: Blanks) -> Result<(), AllocError>
+    L: Ledgers + OfHistory + Send + Sync + 'static,
+>(rt: Rt, alloc: Global, limits: Limits, blanks: Blanks, begun: Begun) -> Result<(), AllocError>
     requires ledgers { blanks ≡ L.names }
+    requires history { begun.seen.book ≡ L.book }
     requires limits { L.limits ≡ Some limits }
 {
     let said = Arc::new(alloc, Said::new())?;
-    assert!(rt; is_whole_others_first::<Rt, L>(rt, alloc, &said, limits, blanks)? == Some(true));
+    assert!(rt;
+        is_whole_others_first::<Rt, L>(rt, alloc, &said, limits, blanks, begun)? == Some(true)
+    );
     let (_, _, first, others) = said.numbers();
     assert_eq!(rt; (first, others), (2, 2));
     Ok(())
@@ -401,7 +414,13 @@ fn waits_at_its_gate<
 fn answer_waits_at_its_gate_for_another_session(rt: HostRuntime) -> Result<(), Fail> {
     for _ in 0..REPEATED {
         let limits = Limits::new(100, 1024)?;
-        waits_at_its_gate::<HostRuntime, Brand>(rt, rt.alloc(), limits, Blanks::new())?;
+        waits_at_its_gate::<HostRuntime, Brand>(
+            rt,
+            rt.alloc(),
+            limits,
+            Blanks::new(),
+            Begun::new(),
+        )?;
     }
     Ok(())
 }
@@ -438,7 +457,7 @@ fn came_of(
 /// What comes of one session over memory, in a run of so many records, under a gate that says this.
 fn under_a_gate<
     Rt: Threads + Wait + Clock + Copy + Drop + Send + Sync + 'static,
-    L: Ledgers + Send + Sync + 'static,
+    L: Ledgers + OfHistory + Send + Sync + 'static,
 >(
     rt: Rt,
     alloc: Global,
@@ -446,8 +465,10 @@ fn under_a_gate<
     said: &Arc<Said>,
     limits: Limits,
     blanks: Blanks,
+    begun: Begun,
 ) -> Result<Option<(End, usize, u32, usize, u64)>, AllocError>
     requires ledgers { blanks ≡ L.names }
+    requires history { begun.seen.book ≡ L.book }
     requires limits { L.limits ≡ Some limits }
 {
     let gate = gate_of(says, said)?;
@@ -459,6 +480,7 @@ fn under_a_gate<
         gate,
         limits,
         blanks,
+        begun,
         Manner::sound(),
     ) {
         Some(report) => Ok(came_of(&report)),
@@ -477,6 +499,7 @@ fn answer_is_refused_a_thousand_times(rt: HostRuntime) -> Result<(), Fail> {
         &said,
         limits,
         Blanks::new(),
+        Begun::new(),
     )?;
     // the join, its process's exit and the closing
     assert!(rt; came == Some((End::WriteFault { sent: 0 }, 1, 1_000, 0, 3)));
@@ -495,6 +518,7 @@ fn refusal_is_asked_for_by_the_records_seen(rt: HostRuntime) -> Result<(), Fail>
         &said,
         limits,
         Blanks::new(),
+        Begun::new(),
     )?;
     // the join at place 0, in a frame of 22 bytes, and a refusal in one of 6, since the run is full
     assert!(rt; came == Some((End::Closed, 2, 0, 28, 3)));
@@ -615,9 +639,16 @@ fn two_one_by_one(alloc: Global) -> Result<Vec<(ShyReader, TellingWriter)>, Allo
 /// Whether a run of two sessions is whole whose readers wait for one another.
 fn is_whole_one_by_one<
     Rt: Threads + Wait + Clock + Copy + Drop + Send + Sync + 'static,
-    L: Ledgers + Send + Sync + 'static,
->(rt: Rt, alloc: Global, limits: Limits, blanks: Blanks) -> Result<Option<bool>, AllocError>
+    L: Ledgers + OfHistory + Send + Sync + 'static,
+>(
+    rt: Rt,
+    alloc: Global,
+    limits: Limits,
+    blanks: Blanks,
+    begun: Begun,
+) -> Result<Option<bool>, AllocError>
     requires ledgers { blanks ≡ L.names }
+    requires history { begun.seen.book ≡ L.book }
     requires limits { L.limits ≡ Some limits }
 {
     let connections = two_one_by_one(alloc)?;
@@ -628,6 +659,7 @@ fn is_whole_one_by_one<
         OpenGate,
         limits,
         blanks,
+        begun,
     ))
 }
 
@@ -640,6 +672,7 @@ fn reader_waits_for_the_answer_of_another_session(rt: HostRuntime) -> Result<(),
             rt.alloc(),
             limits,
             Blanks::new(),
+            Begun::new(),
         )?;
         assert!(rt; whole == Some(true));
     }
@@ -673,7 +706,7 @@ fn two_plain(alloc: Global) -> Result<Vec<(MemoryReader, MemoryWriter)>, AllocEr
 /// Whether all answers of two sessions come, in a run whose sink fails so, and whether this is told of its trace.
 fn keeps_no_answer_back<
     Rt: Threads + Wait + Clock + Copy + Drop + Send + Sync + 'static,
-    L: Ledgers + Send + Sync + 'static,
+    L: Ledgers + OfHistory + Send + Sync + 'static,
 >(
     rt: Rt,
     alloc: Global,
@@ -681,8 +714,10 @@ fn keeps_no_answer_back<
     told: (TraceFault, u64),
     limits: Limits,
     blanks: Blanks,
+    begun: Begun,
 ) -> Result<Option<bool>, AllocError>
     requires ledgers { blanks ≡ L.names }
+    requires history { begun.seen.book ≡ L.book }
     requires limits { L.limits ≡ Some limits }
 {
     let connections = two_plain(alloc)?;
@@ -693,6 +728,7 @@ fn keeps_no_answer_back<
         OpenGate,
         limits,
         blanks,
+        begun,
         manner,
     ) {
         Some(report) => Ok(Some(came_all_the_same(&report, told.0, told.1))),
@@ -715,6 +751,7 @@ fn sink_that_fails_keeps_no_answer_back(rt: HostRuntime) -> Result<(), Fail> {
             (fault, whole),
             limits,
             Blanks::new(),
+            Begun::new(),
         )?;
         assert!(rt; came == Some(true));
     }

@@ -1,4 +1,4 @@
-use Rattle.std.proofs.Common.{◌≡◌, ◌∙◌, ap}
+use Rattle.std.proofs.Common.{◌∙◌, ap}
 use Rattle.run_core.proofs.StarterLemmas.{is_a_want}
 use Rattle.run_core.proofs.sessions.report_of.Goals as goal
 
