@@ -47,14 +47,11 @@ fdref Sockets.is_unheard: λ _ _. ⊤
 fdref SystemFiles.bytes_at: λ _ _. None
 fdref SystemFiles.is_taken: λ _ _. ⊤
 fdref SystemFiles.is_unmade: λ _ _. ⊤
-system_lock OneBook.ended: λ _ _. ⊤
+system_lock Front.as_front: λ f. f
 system_lock OneBook.marks: λ _ _. ⊤
-system_lock OneBook.not_opened: λ _ _. ⊤
-system_lock OneBook.refused: λ _ _ _. ⊤
-system_lock SystemLock.ended: IsEnded L.limits
+system_lock OneBook.says: λ _. anything
 system_lock SystemLock.marks: λ mark process. mark ≡ marked_at_doors process
-system_lock SystemLock.not_opened: IsNotOpened L.limits
-system_lock SystemLock.refused: IsRefused L.limits
+system_lock SystemLock.says: said_under L.limits
 trace_writer FileSink.contents: λ s. s.file.contents
 trace_writer FileSink.failures: λ s. s.failures
 trace_writer FileSink.is_sound: λ s. true
