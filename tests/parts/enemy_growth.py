@@ -28,10 +28,10 @@ MORE_MEMORY = 1_024
 MORE_TIME = 1.5
 # A time under the first says nothing, and the second is aimed at, by a short trace of so many bytes at most.
 LEAST_SECONDS = 0.05
-GOOD_SECONDS = 0.06
-MOST_BYTES = 8_000_000
+GOOD_SECONDS = 0.1
+MOST_BYTES = 16_000_000
 FIRST_BYTES = 1_500_000
-TRIES = 3
+TRIES = 4
 
 # By this option a process takes over the children of those that it started.
 PR_SET_CHILD_SUBREAPER = 36
@@ -282,26 +282,26 @@ def cost_of(program: str, trace: Endless, rounds: int, is_lie: bool = False) -> 
 
 
 def is_steady(program: str, trace: Endless) -> None:
-    """A trace that is longer takes no more memory, and as much time for a record. There is a lie at its end."""
+    """A trace that is longer takes no more memory, and as much time for a record. There is a lie at its end.
+
+    Each long trace is held against a short one that is audited right before it, since what a machine does besides comes
+    and goes: the times of one pair are those of one load.
+    """
     is_legal(trace)
     rounds = rounds_for(trace, FIRST_BYTES)
     short = cost_of(program, trace, rounds)
     if short.seconds < GOOD_SECONDS:
         wanted = int(rounds * GOOD_SECONDS / max(short.seconds, 0.005)) + 1
         rounds = max(rounds, min(wanted, rounds_for(trace, MOST_BYTES)))
-        short = cost_of(program, trace, rounds)
-    again = [cost_of(program, trace, rounds) for _ in range(1, TRIES)]
-    least = min(it.seconds for it in [short, *again])
-    most_memory = max(it.peak for it in [short, *again]) * 1.1 + MORE_MEMORY
-    most_time = least * TIMES * MORE_TIME if least >= LEAST_SECONDS else SECONDS
-    found: list[Cost] = []
-    while len(found) < TRIES:
-        found.append(cost_of(program, trace, rounds * TIMES, True))
-        if found[-1].seconds <= most_time and found[-1].peak <= most_memory:
+    found: list[str] = []
+    for _ in range(TRIES):
+        short, long = cost_of(program, trace, rounds), cost_of(program, trace, rounds * TIMES, True)
+        most_memory = short.peak * 1.1 + MORE_MEMORY
+        most_time = short.seconds * TIMES * MORE_TIME if short.seconds >= LEAST_SECONDS else SECONDS
+        if long.peak <= most_memory and long.seconds <= most_time:
             return
-    peak, seconds = min(it.peak for it in found), min(it.seconds for it in found)
-    require(peak <= most_memory, f"{short.peak} KiB for {rounds} rounds, {peak} KiB for {TIMES} times as many")
-    require(seconds <= most_time, f"{least:.3f} s for {rounds} rounds, {seconds:.3f} s for {TIMES} times as many")
+        found.append(f"{short.seconds:.3f} s and {short.peak} KiB, then {long.seconds:.3f} s and {long.peak} KiB")
+    require(False, f"{rounds} rounds, and {TIMES} times as many: {'; '.join(found)}")
 
 
 def is_legal(trace: Endless) -> None:
