@@ -10,7 +10,7 @@ from parts.random_races import given
 from support import plain_model
 from support.commands import capacity_words
 from support.counting import Case, require, same
-from support.outcomes import Explorer, Race, answer_of, printed, read_race
+from support.outcomes import Explorer, Race, answer_of, printed, read_race, too_many
 from support.places import EXAMPLES
 from support.plain_model import DEFAULTS, SCRIPT_MOST, TOO_LONG, Limits
 from support.running import Ran, run
@@ -306,9 +306,8 @@ def states_are_bounded(program: Sequence[str]) -> None:
     text = BIG_WRITE.read_text()
     prints(program, given(program, text.encode()), text, "--states", "44")
     for states in (1, 43):
-        wanted = Ran(9, b"", b"too many states: more than %d\n" % states)
-        prints(program, wanted, text, "--states", str(states))
-        prints(program, wanted, text, "--states", str(states), "--witness", "all")
+        prints(program, too_many(states), text, "--states", str(states))
+        prints(program, too_many(states), text, "--states", str(states), "--witness", "all")
 
 
 # ---- the examples

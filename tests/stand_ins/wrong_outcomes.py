@@ -29,6 +29,7 @@ from support.outcomes import (
     read_race,
     record_lines,
     script_line,
+    too_many,
 )
 from support.plain_model import DEFAULTS, Limits
 from support.running import Ran
@@ -210,7 +211,7 @@ def outcomes(name: str, text: bytes, args: argparse.Namespace) -> Ran:
     except BadRace as fault:
         return Ran(3, b"", f"{fault}\n".encode())
     if len(explorer.met) > args.states:
-        return Ran(9, b"", b"too many states: more than %d\n" % args.states)
+        return too_many(args.states)
     if args.witness is None:
         return printed(race, explorer.texts(), len(explorer.met))
     if args.witness == "all":

@@ -21,7 +21,7 @@ from support.running import Ran
 from support.runs import ALL_RECORDS, line_of
 from support.worlds import States
 
-STATES_DEFAULT = 300_000
+STATES_DEFAULT, STATES_MOST = 300_000, 100_000_000
 # Acts of a process that are no calls.
 NO_CALLS = ("attach", "resume", "exit")
 # Why a line of a race cannot stand where it does, and what can.
@@ -325,6 +325,12 @@ def printed(race: Race, texts: Sequence[str], states: int) -> Ran:
     outcomes = [f"outcome {number}: {text}" for number, text in enumerate(texts)]
     lines = [*race_lines(race), *outcomes, f"outcomes {len(texts)} states {states}"]
     return Ran(0 if texts else 1, "".join(f"{line}\n" for line in lines).encode(), b"")
+
+
+def too_many(states: int) -> Ran:
+    """What the program gives for a race that has more positions than so many."""
+    expected = f"at most {states} states; --states takes up to {STATES_MOST}"
+    return Ran(9, b"", f"too many states: more than {states}\nexpected {expected}\n".encode())
 
 
 def record_lines(records: Sequence[tuple[Act, str]]) -> list[str]:

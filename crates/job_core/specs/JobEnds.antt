@@ -64,7 +64,8 @@ ended_text (ended.BadRace line why) = codes "line " ++ (decimal line ++ (codes "
 ended_text (ended.BadAnswer line column) =
     codes "line " ++ (decimal line ++ (codes " column " ++ (decimal column ++ codes ": not an answer\nexpected ? or an answer, as 5, x6869, ok, error EBADF, waits 0 or -\n")))
 ended_text ended.NoRace = codes "no race\nexpected a line race after the acts before it\n"
-ended_text (ended.TooManyStates most) = codes "too many states: more than " ++ (decimal most ++ codes "\n")
+ended_text (ended.TooManyStates most) =
+    codes "too many states: more than " ++ (decimal most ++ (codes "\nexpected at most " ++ (decimal most ++ codes " states; --states takes up to 100000000\n")))
 ended_text ended.NoneAgrees = []
 ended_text ended.NoSuchOutcome = codes "no such outcome\n"
 ended_text ended.Incomplete = codes "not complete\nexpected house close-run as the last record, and nothing after it\n"

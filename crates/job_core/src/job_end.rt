@@ -175,7 +175,10 @@ impl fmt::Display for JobEnd {
             JobEnd::NoRace => f.write_str(
                 "no race\nexpected a line race after the acts before it\n",
             ),
-            JobEnd::TooManyStates { most } => write!(f, "too many states: more than {most}\n"),
+            JobEnd::TooManyStates { most } => write!(
+                f,
+                "too many states: more than {most}\nexpected at most {most} states; --states takes up to 100000000\n"
+            ),
             JobEnd::NoSuchOutcome => f.write_str("no such outcome\n"),
             JobEnd::Incomplete => f.write_str(
                 "not complete\nexpected house close-run as the last record, and nothing after it\n",
