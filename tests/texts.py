@@ -11,7 +11,8 @@ The program is crates/fdref/out/fdref where no PATH is given. It is held against
   - `show --text` and `show --acts --text` on traces of random scripts: what they print is read again by
     `replay --text`,
   - `show --json` on the same traces: each object, read by Python's reader, spells the line of `show`,
-  - what is told of a carriage return, of a script that is too long, and of words that go together with no other.
+  - what is told of a carriage return, of a comment or string without --text, of what is no string, of a script that
+    is too long, and of words that go together with no other.
 
 A failure is told in one line. The last line is `N passed, M failed`, and the exit status is 1 where M is above 0.
 """
@@ -88,19 +89,52 @@ SPELLED: list[tuple[str, str, str]] = [
     ("a quote in a name", 'p0 open "a" rw,creat', 'p0 open "a" rw,creat'),
     ("names like data", "p0 link a x6869", "p0 link a x6869"),
 ]
-# A line, and at which column it is no act.
-FAULTY: list[tuple[str, str, int]] = [
-    ("a string without an end", 'p0 write 0 "hello', 12),
-    ("a string with another escape", r'p0 write 0 "\x41"', 12),
-    ("a string with more behind it", 'p0 write 0 "a"b', 12),
-    ("a word behind a string", 'p0 write 0 "a" b', 16),
-    ("a word behind a string with escapes", r'p0 write 0 "\n\n" b', 19),
-    ("a string in place of a number", 'p0 write "0" x61', 10),
-    ("a string that is not printable", 'p0 write 0 "\x07"', 12),
-    ("a string in no call of data", 'p0 fstat "0"', 10),
-    ("a comment in place of a word", "p0 write 0 # x61", 11),
-    ("a comment without a space before it", "p0 fstat 0# x", 10),
+# What is told where a line is no act.
+A_STRING = r'a string of at most 65700 bytes, as "hi\n": bytes from 32 to 126, '
+A_STRING += r'\n, \t, \r, \" and \\, and a quote that ends the word'
+WITH_TEXT = "an act; comments and strings are read with --text"
+DATA = plain_model.EXPECTED[plain_model.read_data]
+FD = plain_model.EXPECTED[plain_model.read_fd]
+NAME = plain_model.EXPECTED[plain_model.read_name]
+POSITION = plain_model.EXPECTED[plain_model.read_place]
+END = "the end of the line"
+# A line, at which column it is no act with --text, and what is expected there.
+FAULTY: list[tuple[str, str, int, str]] = [
+    ("a string without an end", 'p0 write 0 "hello', 12, A_STRING),
+    ("a quote alone", 'p0 pwrite 0 5 "', 15, A_STRING),
+    ("a string with a comment in it", 'p0 write 0 "a # b', 12, A_STRING),
+    ("a string with another escape", r'p0 write 0 "\x41"', 12, A_STRING),
+    ("a string with more behind it", 'p0 write 0 "a"b', 12, A_STRING),
+    ("a string that is not printable", 'p0 write 0 "\x07"', 12, A_STRING),
+    ("a string of too many bytes", f'p0 write 0 "{"a" * (plain_model.DATA_MOST + 1)}"', 12, A_STRING),
+    ("a word behind a string", 'p0 write 0 "a" b', 16, END),
+    ("a quote behind a string", 'p0 write 0 "abc" "b', 18, END),
+    ("a word behind a string with escapes", r'p0 write 0 "\n\n" b', 19, END),
+    ("a string in place of a number", 'p0 write "0" x61', 10, FD),
+    ("no string in place of a number", 'p0 write "0 x61', 10, FD),
+    ("a string and no string", 'p0 pwrite 0 "a" "b', 13, POSITION),
+    ("a string in no call of data", 'p0 fstat "0"', 10, FD),
+    ("a quote in data", 'p0 write 0 x61"', 12, DATA),
+    ("a comment in place of a word", "p0 write 0 # x61", 11, DATA),
+    ("a comment without a space before it", "p0 fstat 0# x", 10, FD),
 ]
+# The same of a plain script.
+PLAIN_FAULTY: list[tuple[str, str, int, str]] = [
+    ("a comment", "# a", 1, WITH_TEXT),
+    ("a comment behind an act", "p0 fstat 0 # a", 12, WITH_TEXT),
+    ("a comment in place of data", "p0 write 0 # x61", 12, WITH_TEXT),
+    ("a comment in place of a name", "p0 unlink #% a", 11, WITH_TEXT),
+    ("a comment without a space before it", "p0 fstat 0# a", 10, FD),
+    ("a string", 'p0 write 0 "a"', 12, WITH_TEXT),
+    ("a string without an end", 'p0 pwrite 0 5 "', 15, WITH_TEXT),
+    ("a string in place of a number", 'p0 write "0" x61', 10, FD),
+    ("a string behind an act", 'p0 write 0 x61 "a"', 16, END),
+    ("a name with a quote", 'p0 unlink "%"', 11, NAME),
+    ("no data", "p0 write 0 a#", 12, DATA),
+    ("no data at all", "p0 write 0", 11, DATA),
+]
+# Lines of a plain script in which these bytes are some of a name.
+LEGAL = ["p0 open # rw,creat", "p0 open #a rw,creat", "p0 open a#b rw,creat", 'p0 open "a" rw,creat', 'p0 link a "#']
 
 
 def spelled(program: str, text: str, plain: str) -> None:
@@ -110,19 +144,28 @@ def spelled(program: str, text: str, plain: str) -> None:
     same(wanted._replace(stdout=strung_lines(wanted.stdout)), given)
 
 
-def faulty(program: str, line: str, column: int) -> None:
-    """A fault is told at the column of the text."""
-    ran = run([program, "replay", "--text"], f"# first\n{line}\n".encode("latin-1"))
-    same((3, b""), ran[:2])
-    require(ran.stderr.startswith(f"line 2 column {column}: not an act\n".encode()), ran.said())
+def faulty(program: str, words: Sequence[str], line: str, column: int, expected: str) -> None:
+    """A fault is told at the column of the text, with what could stand there."""
+    told = f"line 4 column {column}: not an act\nexpected {expected}\n"
+    same(Ran(3, b"", told.encode()), run([program, "replay", *words], f"\n{SETUP}{line}\n".encode("latin-1")))
+
+
+def legal(program: str, script: bytes) -> None:
+    """A plain script runs as the model says, without a fault."""
+    ran = run([program, "replay"], script)
+    same(plain_model.replay(script), ran)
+    same(0, ran.status)
 
 
 def written_out(program: str) -> Iterator[Case]:
     """What is written out here."""
     for name, text, plain in SPELLED:
         yield name, partial(spelled, program, text, plain)
-    for name, line, column in FAULTY:
-        yield name, partial(faulty, program, line, column)
+    for words, faults in ((["--text"], FAULTY), ([], PLAIN_FAULTY)):
+        for name, line, column, expected in faults:
+            yield " ".join([*words, name]), partial(faulty, program, words, line, column, expected)
+    for line in LEGAL:
+        yield f"plain: {line}", partial(legal, program, f"{SETUP}{line}\n".encode())
     comment = run_of_text(b"# nothing\n", Ran(0, b"records 0 in 0 out 0\n", b""))
     yield "nothing but a comment", partial(comment, program)
     long = "a" * plain_model.SCRIPT_MOST

@@ -790,6 +790,17 @@ def act_text(act: Act) -> str:
 
 
 TOO_LONG = f"script too long\nexpected at most {SCRIPT_MOST} bytes"
+NO_RETURN = "a line without a carriage return at its end"
+
+
+def expected_in(line: bytes, column: int, expected: str) -> str:
+    """What is told to be expected in a line where this could stand."""
+    mark = line[column - 1 : column]
+    if line.endswith(b"\r"):
+        return NO_RETURN
+    if mark == b"#" or (mark == b'"' and expected == EXPECTED[read_data]):
+        return "an act; comments and strings are read with --text"
+    return expected
 
 
 def replay(script: bytes, records: int = RECORDS_DEFAULT, limits: Limits = DEFAULTS) -> Ran:
@@ -803,9 +814,7 @@ def replay(script: bytes, records: int = RECORDS_DEFAULT, limits: Limits = DEFAU
                 acts.append(read_act(line))
         except NotAnAct as fault:
             column, expected = fault.args
-            if line.endswith(b"\r"):
-                expected = "a line without a carriage return at its end"
-            text = f"line {place} column {column}: not an act\nexpected {expected}\n"
+            text = f"line {place} column {column}: not an act\nexpected {expected_in(line, column, expected)}\n"
             return Ran(3, b"", text.encode())
     run = Run(records, limits)
     for act in acts:

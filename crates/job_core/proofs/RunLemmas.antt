@@ -1,6 +1,6 @@
 -- A run of a script as it is read: what was read so far was run, and its lines are gathered.
 use Rattle.std.proofs.Common.{◌≡◌, ◌≤◌, ℕ, Bool, true, false, List, [], ◌∷◌, ◌++◌, Option, None, Some, Result, Ok, Err, length, inl, inr, refl, ◌∙◌, ap, sym, subst}
-use Rattle.std.specs.Prelude.{IfSome, nat_lt, if◌then◌else◌}
+use Rattle.std.specs.Prelude.{IfSome, nat_lt, ◌==◌, ◌||◌, if◌then◌else◌}
 use Rattle.std.proofs.lemmas.Bool.{cases_lt, lt-ltb, le-ltb}
 use Rattle.std.proofs.lemmas.List.{append_assoc, append-nil}
 use Rattle.std.proofs.lemmas.Grind.{flat_map-append}
@@ -9,7 +9,7 @@ use Rattle.call_types.specs.declared.limits.Limits.{Limits}
 use Rattle.script_text.specs.ReadingScripts.{script, script_acts, followed}
 use Rattle.script_text.specs.declared.fault.Expected.{Expected}
 use Rattle.script_text.specs.declared.script.TheConstants.{SCRIPT_MAX}
-use Rattle.text_forms.specs.Scripts.{plain_script}
+use Rattle.text_forms.specs.Scripts.{hash, plain_script}
 use Rattle.script_text.specs.ReadingResults.{ScriptFails, NextGives}
 use Rattle.script_text.specs.declared.fault.ScriptFault.{ScriptFault}
 use Rattle.record_book.specs.Book.{BookState, new_book}
@@ -20,7 +20,7 @@ use Rattle.script_text.specs.declared.fault.ScriptFault.TheVariants as faults
 use Rattle.posix_model.specs.History.{legal}
 use Rattle.logged_streams.specs.Streams.{LoggedWriterState, Writes}
 use Rattle.job_core.specs.Output.{AppendsFront, last_line, told_line, told_lines}
-use Rattle.job_core.specs.Replay.{Refuses, ReplayEnds, Spells, WritesReplay, WritesReplayFront, column_in, end_in, ends_in_return, read_in}
+use Rattle.job_core.specs.Replay.{Refuses, ReplayEnds, Spells, WritesReplay, WritesReplayFront, byte_at, column_in, end_at, end_in, end_in_line, ends_in_return, opens_string, read_in}
 use Rattle.job_core.specs.Proved.Running.{RunsNext, RunsOn, Gathers, RunsScript, RunsText, FailsTold}
 use Rattle.job_core.specs.declared.spelling.Spelling.{Spelling}
 use Rattle.job_core.specs.declared.spelling.Spelling.TheVariants as spelling
@@ -172,12 +172,30 @@ whole_if : (input : Option (List ℕ)) (text : List ℕ) → IfSome input (λ kn
 whole_if None text same short = tt
 whole_if (Some known) text same short = same short
 
+-- what holds of all ends that a fault of a line can be told as holds of that as which it is told
+either : (P : JobEnd → Type 0) (b : Bool) (one other : JobEnd) → P one → P other → P (if b then one else other)
+either P true one other so also = so
+either P false one other so also = also
+
+of_byte : (P : JobEnd → Type 0) (how : Spelling) (byte line column : ℕ) (expected : Expected)
+    → P (ended.NeedsText line column) → P (ended.BadString line column) → P (ended.BadLine line column expected) → P (end_at how byte line column expected)
+of_byte P spelling.Plain byte line column expected text string bad =
+    either P (byte == hash || opens_string byte expected) (ended.NeedsText line column) (ended.BadLine line column expected) text bad
+of_byte P spelling.Text byte line column expected text string bad = either P (opens_string byte expected) (ended.BadString line column) (ended.BadLine line column expected) string bad
+
+of_line : (P : JobEnd → Type 0) (how : Spelling) (text : List ℕ) (line column : ℕ) (expected : Expected)
+    → P (ended.CarriageReturn line column) → P (ended.NeedsText line column) → P (ended.BadString line column) → P (ended.BadLine line column expected)
+    → P (end_in_line how text line column expected)
+of_line P how text line column expected returns needs string bad =
+    let byte = byte_at text line column in
+    either P (ends_in_return text line) (ended.CarriageReturn line column) (end_at how byte line column expected) returns (of_byte P how byte line column expected needs string bad)
+
 -- the end of a line that has no place: it is told of the line
-line_ends : (limits : Limits) (how : Spelling) (input : Option (List ℕ)) (old : LoggedWriterState) (line column : ℕ) (expected : Expected) (b : Bool)
-    → IfSome input (Refuses how (if b then ended.CarriageReturn line column else ended.BadLine line column expected))
-    → ReplayEnds limits how input old old (if b then ended.CarriageReturn line column else ended.BadLine line column expected)
-line_ends limits how input old line column expected true refuses = (refuses, refl)
-line_ends limits how input old line column expected false refuses = (refuses, refl)
+line_ends : (limits : Limits) (how : Spelling) (input : Option (List ℕ)) (old : LoggedWriterState) (text : List ℕ) (line column : ℕ) (expected : Expected)
+    → IfSome input (Refuses how (end_in_line how text line column expected)) → ReplayEnds limits how input old old (end_in_line how text line column expected)
+line_ends limits how input old text line column expected =
+    of_line (λ (end : JobEnd). IfSome input (Refuses how end) → ReplayEnds limits how input old old end) how text line column expected (λ refuses. (refuses, refl)) (λ refuses. (refuses, refl))
+    (λ refuses. (refuses, refl)) (λ refuses. (refuses, refl))
 
 known_refl : (how : Spelling) (input : Option (List ℕ)) → IfSome input (λ known. ended.TooLong ≡ end_in how known faults.TooLong)
 known_refl how None = tt
@@ -194,7 +212,7 @@ fails_ends limits how input old text end law same whole (faults.BadLine line col
     let short : length text ≤ SCRIPT_MAX = fine_by how text (faults.BadLine line column expected) fails tt in
     let told = told_of how input (faults.BadLine line column expected) text (whole_if input text whole) short in
     subst (ReplayEnds limits how input old old) (sym is)
-    (line_ends limits how input old line (column_in how text line column) expected (ends_in_return text line)
+    (line_ends limits how input old text line (column_in how text line column) expected
     (refused how input (faults.BadLine line column expected) text (end_in how text (faults.BadLine line column expected)) law same fails told))
 
 -- the lines of a run were written
@@ -216,11 +234,11 @@ front_ends limits how input old new text lines end law whole (acts, is, output, 
     (of_input input (WritesReplayFront limits how old new) text short whole (acts, spells, (output, is_output, subst (AppendsFront old new) lines_are front)))
 
 -- a fault of a script is not one of its reader
-line_of_none : (line column : ℕ) (expected : Expected) (b : Bool) → (if b then ended.CarriageReturn line column else ended.BadLine line column expected) ≡ ended.CannotRead → ⊥
-line_of_none line column expected true e = cc
-line_of_none line column expected false e = cc
+line_of_none : (how : Spelling) (text : List ℕ) (line column : ℕ) (expected : Expected) → end_in_line how text line column expected ≡ ended.CannotRead → ⊥
+line_of_none how text line column expected =
+    of_line (λ (end : JobEnd). end ≡ ended.CannotRead → ⊥) how text line column expected (λ e. cc) (λ e. cc) (λ e. cc) (λ e. cc)
 
 pub fault_of_none : (how : Spelling) (text : List ℕ) (end : JobEnd) → FailsTold how text end → end ≡ ended.CannotRead → ⊥
 fault_of_none how text end (faults.NoMemory, is, fails) e = let bad : ended.NoMemory ≡ ended.CannotRead = sym is ∙ e in cc
 fault_of_none how text end (faults.TooLong, is, fails) e = let bad : ended.TooLong ≡ ended.CannotRead = sym is ∙ e in cc
-fault_of_none how text end (faults.BadLine line column expected, is, fails) e = line_of_none line (column_in how text line column) expected (ends_in_return text line) (sym is ∙ e)
+fault_of_none how text end (faults.BadLine line column expected, is, fails) e = line_of_none how text line (column_in how text line column) expected (sym is ∙ e)

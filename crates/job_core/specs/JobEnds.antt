@@ -32,6 +32,8 @@ ended_status ended.NoSuchOutcome = 1
 ended_status ended.Incomplete = 1
 ended_status ended.NothingJudged = 0
 ended_status (ended.CarriageReturn line column) = 3
+ended_status (ended.NeedsText line column) = 3
+ended_status (ended.BadString line column) = 3
 
 -- why a line of a race cannot stand where it does, and what can (own)
 abbrev pub unfit_text : Unfit → List ℕ
@@ -47,6 +49,10 @@ ended_text (ended.BadLine line column expected) =
     codes "line " ++ (decimal line ++ (codes " column " ++ (decimal column ++ (codes ": not an act\nexpected " ++ (expected_text expected ++ codes "\n")))))
 ended_text (ended.CarriageReturn line column) =
     codes "line " ++ (decimal line ++ (codes " column " ++ (decimal column ++ codes ": not an act\nexpected a line without a carriage return at its end\n")))
+ended_text (ended.NeedsText line column) =
+    codes "line " ++ (decimal line ++ (codes " column " ++ (decimal column ++ codes ": not an act\nexpected an act; comments and strings are read with --text\n")))
+ended_text (ended.BadString line column) =
+    codes "line " ++ (decimal line ++ (codes " column " ++ (decimal column ++ codes ": not an act\nexpected a string of at most 65700 bytes, as \"hi\\n\": bytes from 32 to 126, \\n, \\t, \\r, \\\" and \\\\, and a quote that ends the word\n")))
 ended_text ended.TooLong = codes "script too long\nexpected at most 16777216 bytes\n"
 ended_text ended.CannotRead = codes "cannot read\n"
 ended_text ended.CannotWrite = codes "cannot write\n"

@@ -1,15 +1,17 @@
 -- What a replay writes, and what its end says (own).
-use Rattle.std.specs.Prelude.{◌≡◌, ◌==◌, ℕ, ◌-◌, ◌≤◌, nat_lt, Bool, false, List, [], ◌∷◌, ◌++◌, Option, Result, Ok, Err, IfSome, length, if◌then◌else◌}
+use Rattle.std.specs.Prelude.{◌≡◌, ◌==◌, ℕ, ◌-◌, ◌≤◌, nat_lt, Bool, true, false, ◌&&◌, ◌||◌, List, [], ◌∷◌, ◌++◌, Option, Result, Err, IfSome, length, slice_index_or, if◌then◌else◌}
 use Rattle.call_types.specs.declared.act.ScriptAct.{ScriptAct}
 use Rattle.call_types.specs.declared.limits.Limits.{Limits}
 use Rattle.logged_streams.specs.Streams.{LoggedWriterState, Writes}
 use Rattle.posix_model.specs.History.{legal}
 use Rattle.script_text.specs.Spellings.{SpellsScript}
 use Rattle.script_text.specs.ReadingScripts.{script}
+use Rattle.script_text.specs.declared.fault.Expected.{Expected}
+use Rattle.script_text.specs.declared.fault.Expected.TheVariants as expect
 use Rattle.script_text.specs.declared.fault.ScriptFault.{ScriptFault}
 use Rattle.script_text.specs.declared.fault.ScriptFault.TheVariants as faults
 use Rattle.script_text.specs.declared.script.TheConstants.{SCRIPT_MAX}
-use Rattle.text_forms.specs.Scripts.{plain_script, source_column, strung}
+use Rattle.text_forms.specs.Scripts.{hash, plain_script, quote, source_column, strung}
 use Rattle.text_forms.specs.declared.scripts.Lines.TheVariants as lines
 use Rattle.record_book.specs.Book.{BookState, new_book}
 use Rattle.record_book.specs.Runs.{RunTells, Seats}
@@ -78,25 +80,47 @@ end_of_fault (faults.BadLine line column expected) = ended.BadLine line column e
 end_of_fault faults.TooLong = ended.TooLong
 end_of_fault faults.NoMemory = ended.NoMemory
 
+-- what is left of a text from a line on, which has so many lines before it
+abbrev pub from_line : List ℕ → ℕ → List ℕ
+from_line [] before = []
+from_line (byte ∷ bytes) before = if before == 0 then byte ∷ bytes else from_line bytes (if byte == 10 then before - 1 else before)
+
 -- the byte before the next end of a line, where the byte before these is this one
 abbrev pub last_of_line : ℕ → List ℕ → ℕ
 last_of_line last [] = last
 last_of_line last (byte ∷ bytes) = if byte == 10 then last else last_of_line byte bytes
 
--- the last byte of a line of a text, which has so many lines before it; 0 for none
-abbrev pub last_byte : List ℕ → ℕ → ℕ
-last_byte [] before = 0
-last_byte (byte ∷ bytes) before =
-    if before == 0 then last_of_line 0 (byte ∷ bytes) else last_byte bytes (if byte == 10 then before - 1 else before)
-
 -- a line, counted from 1, ends in a carriage return
 abbrev pub ends_in_return : List ℕ → ℕ → Bool
-ends_in_return text line = last_byte text (line - 1) == 13
+ends_in_return text line = last_of_line 0 (from_line text (line - 1)) == 13
 
--- the end that a fault of a text is: its column is that in the text, and of a line that ends in a carriage return that is told
+-- the byte at a line and column of a text, which count from 1; 0 for none
+abbrev pub byte_at : List ℕ → ℕ → ℕ → ℕ
+byte_at text line column = slice_index_or (from_line text (line - 1)) (column - 1) 0
+
+-- data is expected
+abbrev pub is_data : Expected → Bool
+is_data expect.Data = true
+is_data other = false
+
+-- a byte begins a string where data is expected
+abbrev pub opens_string : ℕ → Expected → Bool
+opens_string byte expected = byte == quote && is_data expected
+
+-- the end that a fault at this byte is: of a comment or string in a plain script, of what begins as a string and is none, or of any other word
+abbrev pub end_at : Spelling → (byte line column : ℕ) → Expected → JobEnd
+end_at spelling.Plain byte line column expected =
+    if byte == hash || opens_string byte expected then ended.NeedsText line column else ended.BadLine line column expected
+end_at spelling.Text byte line column expected = if opens_string byte expected then ended.BadString line column else ended.BadLine line column expected
+
+-- the same at a place in a text, and of a line that ends in a carriage return that is told
+abbrev pub end_in_line : Spelling → List ℕ → (line column : ℕ) → Expected → JobEnd
+end_in_line how text line column expected =
+    if ends_in_return text line then ended.CarriageReturn line column else end_at how (byte_at text line column) line column expected
+
+-- the end that a fault of a text is: its column is that in the text
 abbrev pub end_in : Spelling → List ℕ → ScriptFault → JobEnd
-end_in how text (faults.BadLine line column expected) =
-    if ends_in_return text line then ended.CarriageReturn line (column_in how text line column) else ended.BadLine line (column_in how text line column) expected
+end_in how text (faults.BadLine line column expected) = end_in_line how text line (column_in how text line column) expected
 end_in how text faults.TooLong = ended.TooLong
 end_in how text faults.NoMemory = ended.NoMemory
 
@@ -120,6 +144,8 @@ abbrev pub ReplayEnds : Limits → Spelling → Option (List ℕ) → LoggedWrit
 ReplayEnds limits how input old new ended.Done = OfInput input (WritesReplay limits how old new)
 ReplayEnds limits how input old new (ended.BadLine line column expected) = IfSome input (Refuses how (ended.BadLine line column expected)) × (new ≡ old)
 ReplayEnds limits how input old new (ended.CarriageReturn line column) = IfSome input (Refuses how (ended.CarriageReturn line column)) × (new ≡ old)
+ReplayEnds limits how input old new (ended.NeedsText line column) = IfSome input (Refuses how (ended.NeedsText line column)) × (new ≡ old)
+ReplayEnds limits how input old new (ended.BadString line column) = IfSome input (Refuses how (ended.BadString line column)) × (new ≡ old)
 ReplayEnds limits how input old new ended.TooLong = IfSome input (Refuses how ended.TooLong) × (new ≡ old)
 ReplayEnds limits how input old new ended.CannotRead = new ≡ old
 ReplayEnds limits how input old new ended.CannotWrite = OfInput input (WritesReplayFront limits how old new)

@@ -53,6 +53,16 @@ pub enum JobEnd {
         line: usize,
         column: usize,
     },
+    /// The same of a comment or a string that stands in a plain script.
+    NeedsText {
+        line: usize,
+        column: usize,
+    },
+    /// The same of a word in place of data that begins as a string and is none, or one of too many bytes.
+    BadString {
+        line: usize,
+        column: usize,
+    },
     /// The script has more than 16,777,216 bytes, as it is given or with digits in place of strings. Nothing was run or written.
     TooLong,
     /// The input failed, or could not be opened. Of a trace that is shown, lines may have been written, and of one that is
@@ -121,6 +131,7 @@ impl JobEnd {
             JobEnd::Done | JobEnd::NothingJudged | JobEnd::Rest { .. } => 0,
             JobEnd::NoneAgrees | JobEnd::NoSuchOutcome | JobEnd::Incomplete => 1,
             JobEnd::BadLine { .. } | JobEnd::CarriageReturn { .. } | JobEnd::TooLong => 3,
+            JobEnd::NeedsText { .. } | JobEnd::BadString { .. } => 3,
             JobEnd::BadRace { .. } | JobEnd::BadAnswer { .. } | JobEnd::NoRace => 3,
             JobEnd::CannotRead | JobEnd::CannotWrite | JobEnd::CannotListen | JobEnd::TraceFault =>
                 4,
@@ -155,6 +166,14 @@ impl fmt::Display for JobEnd {
             JobEnd::CarriageReturn { line, column } => write!(
                 f,
                 "line {line} column {column}: not an act\nexpected a line without a carriage return at its end\n"
+            ),
+            JobEnd::NeedsText { line, column } => write!(
+                f,
+                "line {line} column {column}: not an act\nexpected an act; comments and strings are read with --text\n"
+            ),
+            JobEnd::BadString { line, column } => write!(
+                f,
+                "line {line} column {column}: not an act\nexpected a string of at most 65700 bytes, as \"hi\\n\": bytes from 32 to 126, \\n, \\t, \\r, \\\" and \\\\, and a quote that ends the word\n"
             ),
             JobEnd::TooLong => f.write_str("script too long\nexpected at most 16777216 bytes\n"),
             JobEnd::CannotRead => f.write_str("cannot read\n"),

@@ -4,7 +4,7 @@ ghost use Rattle.script_text.specs.Races.{race_script};
 ghost use Rattle.script_text.specs.ReadingResults.{ScriptFails};
 ghost use Rattle.script_text.specs.declared.script.TheConstants.{SCRIPT_MAX};
 ghost use Rattle.job_core.specs.Reads.{ReadsFew};
-ghost use Rattle.job_core.specs.Replay.{ReplayEnds, column_in, end_in, end_of_fault, ends_in_return, last_byte, last_of_line, read_in};
+ghost use Rattle.job_core.specs.Replay.{ReplayEnds, byte_at, column_in, end_at, end_in, end_of_fault, ends_in_return, from_line, is_data, last_of_line, opens_string, read_in};
 ghost use Rattle.job_core.specs.Proved.Reading.{FailsToRead};
 ghost use Rattle.job_core.specs.Proved.Running.{Gathers, RunsNext, RunsOn, RunsScript, RunsText, FailsAs, FailsReading, FailsTold};
 ghost use Rattle.job_core.specs.declared.spelling.Spelling.{Spelling};
@@ -24,7 +24,7 @@ use logged_streams::writer::LoggedWriter;
 use record_book::book::Book;
 use record_book::run::ScriptAnswer;
 use record_book::seats::Seats;
-use script_text::fault::ScriptFault;
+use script_text::fault::{Expected, ScriptFault};
 use script_text::lines::write_totals;
 use script_text::round_trip::{read_scripts_are_spelled, spelled_scripts_are_read};
 use script_text::script::{SCRIPT_MAX, Script};
@@ -217,22 +217,22 @@ fn run_text(alloc: Global, limits: Limits, text: &[u8]) -> Result<Vec<u8>, JobEn
     Ok(strung)
 }
 
-/// The last byte of a line of a text, which has so many lines before it; 0 for none.
-fn last_byte(text: &[u8], before: usize) -> u8
-    ensures { result ≡ last_byte text.now before }
+/// What is left of a text from a line on, which has so many lines before it.
+fn from_line(text: &[u8], before: usize) -> &[u8]
+    ensures { result.now ≡ from_line text.now before }
 {
     let mut rest = text;
     let mut left = before;
     while let Some((byte, more)) = rest.split_first() {
         if left == 0 {
-            return last_of_line(rest);
+            return rest;
         }
         if *byte == b'\n' {
             left -= 1;
         }
         rest = more;
     }
-    0
+    rest
 }
 
 /// The byte before the next end of a line; 0 for none.
@@ -255,7 +255,61 @@ fn last_of_line(text: &[u8]) -> u8
 fn ends_in_return(text: &[u8], line: usize) -> bool
     ensures { result ≡ ends_in_return text.now line }
 {
-    last_byte(text, line.saturating_sub(1)) == b'\r'
+    last_of_line(from_line(text, line.saturating_sub(1))) == b'\r'
+}
+
+/// The byte at a line and column of a text, which count from 1; 0 for none.
+fn byte_at(text: &[u8], line: usize, column: usize) -> u8
+    ensures { result ≡ byte_at text.now line column }
+{
+    match from_line(text, line.saturating_sub(1)).get(column.saturating_sub(1)) {
+        Some(byte) => *byte,
+        None => 0,
+    }
+}
+
+/// Whether data is expected.
+fn is_data(expected: Expected) -> bool
+    ensures { result ≡ is_data expected }
+{
+    match expected {
+        Expected::Data => true,
+        _ => false,
+    }
+}
+
+/// Whether a byte begins a string where data is expected.
+fn opens_string(byte: u8, expected: Expected) -> bool
+    ensures { result ≡ opens_string byte expected }
+{
+    byte == b'"' && is_data(expected)
+}
+
+/// How a job ends where at this byte something else is expected.
+fn end_at(how: Spelling, byte: u8, line: usize, column: usize, expected: Expected) -> JobEnd
+    ensures { result ≡ end_at how byte line column expected }
+{
+    let bad_line = JobEnd::BadLine {
+        line,
+        column,
+        expected,
+    };
+    match how {
+        Spelling::Plain => {
+            if byte == b'#' || opens_string(byte, expected) {
+                JobEnd::NeedsText { line, column }
+            } else {
+                bad_line
+            }
+        }
+        Spelling::Text => {
+            if opens_string(byte, expected) {
+                JobEnd::BadString { line, column }
+            } else {
+                bad_line
+            }
+        }
+    }
 }
 
 /// The column in a text of a byte of the plain script.
@@ -284,11 +338,7 @@ fn end_in(how: Spelling, text: &[u8], found: JobEnd) -> JobEnd
     if ends_in_return(text, line) {
         return JobEnd::CarriageReturn { line, column };
     }
-    JobEnd::BadLine {
-        line,
-        column,
-        expected,
-    }
+    end_at(how, byte_at(text, line, column), line, column, expected)
 }
 
 /// Runs the acts of a script that is spelled so in a new book, and gathers its output in the same spelling.
