@@ -225,13 +225,20 @@ ACTOR_OR_RACE = "not an act\nexpected a process, as p0, or join or race"
 PROCESS = "not an act\nexpected a process, as p0"
 ACT = "not an act\nexpected a call, attach, resume or exit"
 CALL = "not an act\nexpected a call"
+NO_RETURN = "not an act\nexpected a line without a carriage return at its end"
 
 BAD_RACES = [
     ("", NO_RACE),
     ("join\np0 pipe\n", NO_RACE),
     ("join\nrace \n", f"line 2 column 1: {ACTOR_OR_RACE}"),
     ("join\n race\n", f"line 2 column 1: {ACTOR_OR_RACE}"),
-    ("join\nrace\r\n", f"line 2 column 1: {ACTOR_OR_RACE}"),
+    ("join\r\nrace\r\n", f"line 1 column 1: {NO_RETURN}"),
+    ("join\nrace\r\n", f"line 2 column 1: {NO_RETURN}"),
+    ("race\n\np0 pipe\r", f"line 3 column 4: {NO_RETURN}"),
+    ("race\np0 opne = ?\r\n", f"line 2 column 4: {NO_RETURN}"),
+    ("race\np0 pipe = ?\r\n", f"line 2 column 11: {NO_ANSWER}"),
+    ("join\np0 opne\nrace\r\n", f"line 2 column 4: {ACT}"),
+    ("# none\nrace\n", f"line 1 column 1: {ACTOR_OR_RACE}"),
     ("join\nraec\np0 pipe\n", f"line 2 column 1: {ACTOR_OR_RACE}"),
     ("join\np0\nrace\n", f"line 2 column 3: {ACT}"),
     ("join\np0 race\n", f"line 2 column 4: {ACT}"),

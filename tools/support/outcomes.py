@@ -126,20 +126,20 @@ def is_number(word: str, most: int = NUMBER_MOST) -> bool:
     return re.fullmatch(r"0|[1-9][0-9]{0,19}", word, re.ASCII) is not None and int(word) <= most
 
 
-def read_act(line: bytes, number: int, others: Mapping[str, str]) -> Act:
-    """The act of a line, in a part of a race where others could stand than in a script without one."""
+def read_act(words: bytes, line: bytes, number: int, others: Mapping[str, str]) -> Act:
+    """The act that words of a line are, in a part of a race where others could stand than in a script without one."""
     try:
-        return plain_model.read_act(line)
+        return plain_model.read_act(words)
     except plain_model.NotAnAct as fault:
         column, expected = fault.args
-        expected = others.get(expected, expected)
+        expected = plain_model.NO_RETURN if line.endswith(b"\r") else others.get(expected, expected)
         raise BadRace(f"line {number} column {column}: not an act\nexpected {expected}") from None
 
 
 def read_call(line: bytes, number: int) -> Call:
     """The call of a line, and what is asked for behind it."""
     before, is_asked, asked = line.partition(b" = ")
-    act = read_act(before, number, IN_RACE)
+    act = read_act(before, line, number, IN_RACE)
     if act.word not in FIELDS or act.word in NO_CALLS:
         raise BadRace(f"line {number}: {NOT_A_CALL}")
     try:
@@ -160,7 +160,7 @@ def read_race(text: bytes) -> Race:
         elif line and has_begun:
             race.calls.append(read_call(line, number))
         elif line:
-            race.setup.append((number, read_act(line, number, BEFORE_RACE)))
+            race.setup.append((number, read_act(line, line, number, BEFORE_RACE)))
     if not has_begun:
         raise BadRace(NO_RACE)
     return race

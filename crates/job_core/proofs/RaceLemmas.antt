@@ -1,12 +1,13 @@
 -- From the text that was read to the input, and from what is told of a race to what the job's end says.
-use Rattle.std.proofs.Common.{◌≡◌, ◌∙◌, ℕ, zero, suc, ◌+◌, ◌<◌, ◌≤◌, inl, inr, List, [], ◌∷◌, ◌++◌, Option, None, Some, length, take, refl, sym, ap, subst, arith, length-append}
-use Rattle.std.specs.Prelude.{IfSome, ◌≢◌}
+use Rattle.std.proofs.Common.{◌≡◌, ◌∙◌, ℕ, zero, suc, ◌+◌, ◌<◌, ◌≤◌, Bool, true, false, inl, inr, Result, Err, List, [], ◌∷◌, ◌++◌, Option, None, Some, length, take, refl, sym, ap, subst, arith, length-append}
+use Rattle.std.specs.Prelude.{IfSome, ◌≢◌, if◌then◌else◌}
 use Rattle.std.specs.Io.KnownBytes.{Consumes}
-use Rattle.std.proofs.lemmas.Bool.{lt-ltb}
+use Rattle.std.proofs.lemmas.Bool.{cases_lt, lt-ltb}
 use Rattle.call_types.specs.declared.limits.Limits.{Limits}
 use Rattle.logged_streams.specs.Streams.{LoggedWriterState, LogState, Writes}
 use Rattle.posix_model.specs.Types.{Bounds}
-use Rattle.script_text.specs.Races.{race_script}
+use Rattle.script_text.specs.Races.{RaceFails, race_script}
+use Rattle.script_text.specs.declared.fault.Expected.{Expected}
 use Rattle.script_text.specs.declared.script.TheConstants.{SCRIPT_MAX}
 use Rattle.script_text.specs.declared.races.RaceScript.{RaceScript}
 use Rattle.script_text.specs.declared.races.RaceFault.{RaceFault}
@@ -32,10 +33,10 @@ use Rattle.job_core.specs.Output.{AppendsFront}
 use Rattle.job_core.specs.Shown.{shown_lines}
 use Rattle.job_core.specs.declared.outcomes.Search.{Search}
 use Rattle.job_core.specs.declared.shown.Form.{Form}
-use Rattle.job_core.specs.Replay.{OfInput}
-use Rattle.job_core.specs.Outcomes.{IsReady, HasOutcomes, Tells, LacksOutcome, IsNoRace, IsUnfit, IsTooLarge, IsWitness, AreWitnessLines, OutcomesEnd, WritesTold, WritesToldFront}
+use Rattle.job_core.specs.Replay.{OfInput, ends_in_return}
+use Rattle.job_core.specs.Outcomes.{IsReady, HasOutcomes, Tells, LacksOutcome, IsNoRace, IsBadLine, IsBadReturn, IsUnfit, IsTooLarge, IsWitness, AreWitnessLines, OutcomesEnd, WritesTold, WritesToldFront}
 use Rattle.job_core.specs.Proved.Reading.{FailsToRead}
-use Rattle.job_core.specs.Proved.Racing.{IsToldWith, IsUntold, PutsWitness, PutsWitnesses, GivesUp, IsUnsearched, IsSearch, IsUnprinted}
+use Rattle.job_core.specs.Proved.Racing.{end_of_fault, IsUnready, IsToldWith, IsUntold, PutsWitness, PutsWitnesses, GivesUp, IsUnsearched, IsSearch, IsUnprinted}
 use Rattle.job_core.specs.declared.job_end.JobEnd.{JobEnd}
 use Rattle.job_core.specs.declared.job_end.JobEnd.TheVariants as ended
 use Rattle.job_core.specs.declared.job_end.Unfit.{Unfit}
@@ -120,19 +121,52 @@ no_race_of fault text known same h = sym same ∙ h
 no_race : (known : Option (List ℕ)) (fault : RaceFault) (text : List ℕ) → IfSome known (λ input. race_script text ≡ race_script input) → IsNoRace fault text → IfSome known (IsNoRace fault)
 no_race known fault text same why = if_known known (IsNoRace fault) text same (λ input is h. no_race_of fault text input is h) why
 
+-- a text whose fault is a line is not too long
+abbrev NotTooLong : Result RaceScript RaceFault → Type 0
+NotTooLong (Err races.TooLong) = ⊥
+NotTooLong other = Unit {0}
+
+short_race : (text : List ℕ) (line column : ℕ) (expected : Expected) → IsNoRace (races.BadLine line column expected) text → length text ≤ SCRIPT_MAX
+short_race text line column expected is = elim (cases_lt 16777216 (length text)) [
+  | inl long ↦ let bad = subst NotTooLong (sym is) tt in absurd (rw (lt-ltb 16777216 (length text) long) at bad)
+  | inr short ↦ short
+]
+
+-- what is known of such a text holds of the input, which it is
+if_whole : (known : Option (List ℕ)) (P : List ℕ → Type 0) (text : List ℕ) → IfSome known (λ input. length text ≤ SCRIPT_MAX → text ≡ input) → length text ≤ SCRIPT_MAX → P text → IfSome known P
+if_whole None P text whole short holds = tt
+if_whole (Some input) P text whole short holds = subst P (whole short) holds
+
+-- why a text is no race is told by its end
+by_return : (bounds : Bounds) (text : List ℕ) (line column : ℕ) (expected : Expected) (b : Bool) → ends_in_return text line ≡ b → IsNoRace (races.BadLine line column expected) text
+    → IsUnready bounds text (if b then ended.CarriageReturn line column else ended.BadLine line column expected)
+by_return bounds text line column expected true is fails = (expected, fails, is)
+by_return bounds text line column expected false is fails = (fails, is)
+
+pub unready_by : (bounds : Bounds) (text : List ℕ) (fault : RaceFault) → RaceFails fault (race_script text) → IsUnready bounds text (end_of_fault text fault)
+unready_by bounds text (races.BadLine line column expected) fails = by_return bounds text line column expected (ends_in_return text line) refl fails
+unready_by bounds text races.NoRace fails = fails
+unready_by bounds text (races.NoCall line) fails = fails
+unready_by bounds text (races.BadAnswer line column) fails = fails
+unready_by bounds text races.TooLong fails = fails
+unready_by bounds text races.NoMemory fails = tt
+
 -- nothing is told, for a reason that the end says
 pub untold_ends : (limits : Limits) (most : ℕ) (how : Telling) (known : Option (List ℕ)) (old : LoggedWriterState) (text : List ℕ) (end : JobEnd) → IfSome known (λ input. race_script text ≡ race_script input)
-    → IsUntold limits.bounds most how text end → OutcomesEnd limits most how known old old end
-untold_ends limits most how known old text (ended.BadLine line column expected) same why = (no_race known (races.BadLine line column expected) text same why, refl)
-untold_ends limits most how known old text (ended.BadAnswer line column) same why = (no_race known (races.BadAnswer line column) text same why, refl)
-untold_ends limits most how known old text ended.NoRace same why = (no_race known races.NoRace text same why, refl)
-untold_ends limits most how known old text ended.TooLong same why = (no_race known races.TooLong text same why, refl)
-untold_ends limits most how known old text (ended.BadRace line w) same why = (if_known known (IsUnfit limits.bounds line w) text same (λ input is h. unfit_of limits.bounds line w text input is h) why, refl)
-untold_ends limits most how known old text (ended.TooManyStates told) same why =
+    → IfSome known (λ input. length text ≤ SCRIPT_MAX → text ≡ input) → IsUntold limits.bounds most how text end → OutcomesEnd limits most how known old old end
+untold_ends limits most how known old text (ended.BadLine line column expected) same whole why =
+    (if_whole known (IsBadLine line column expected) text whole (short_race text line column expected why.0) why, refl)
+untold_ends limits most how known old text (ended.CarriageReturn line column) same whole why =
+    (if_whole known (IsBadReturn line column) text whole (short_race text line column why.0 why.1) why, refl)
+untold_ends limits most how known old text (ended.BadAnswer line column) same whole why = (no_race known (races.BadAnswer line column) text same why, refl)
+untold_ends limits most how known old text ended.NoRace same whole why = (no_race known races.NoRace text same why, refl)
+untold_ends limits most how known old text ended.TooLong same whole why = (no_race known races.TooLong text same why, refl)
+untold_ends limits most how known old text (ended.BadRace line w) same whole why = (if_known known (IsUnfit limits.bounds line w) text same (λ input is h. unfit_of limits.bounds line w text input is h) why, refl)
+untold_ends limits most how known old text (ended.TooManyStates told) same whole why =
     (why.0, if_known known (IsTooLarge limits.bounds most) text same (λ input is h. large_of limits.bounds most text input is h) why.1, refl)
-untold_ends limits most how known old text ended.NoSuchOutcome same why = (of_input known (LacksOutcome limits.bounds how) text same (λ input is h. lacks_of limits.bounds how text input is h) why, refl)
-untold_ends limits most how known old text ended.NoMemory same why = refl
-untold_ends limits most how known old text other same why = absurd why
+untold_ends limits most how known old text ended.NoSuchOutcome same whole why = (of_input known (LacksOutcome limits.bounds how) text same (λ input is h. lacks_of limits.bounds how text input is h) why, refl)
+untold_ends limits most how known old text ended.NoMemory same whole why = refl
+untold_ends limits most how known old text other same whole why = absurd why
 
 -- all was told and written, or a front of it
 pub told_ends : (limits : Limits) (most : ℕ) (how : Telling) (known : Option (List ℕ)) (old new : LoggedWriterState) (text output : List ℕ) (end : JobEnd) → IfSome known (λ input. race_script text ≡ race_script input)

@@ -1,5 +1,5 @@
 -- What is written of a race, and what the end of that job says (own).
-use Rattle.std.specs.Prelude.{◌≡◌, ◌≢◌, ℕ, ◌+◌, ◌≤◌, List, [], ◌∷◌, ◌++◌, Option, None, Some, Ok, Err, length, IfSome}
+use Rattle.std.specs.Prelude.{◌≡◌, ◌≢◌, ℕ, ◌+◌, ◌≤◌, true, false, List, [], ◌∷◌, ◌++◌, Option, None, Some, Ok, Err, length, IfSome}
 use Rattle.std.specs.List.{slice_get}
 use Rattle.call_types.specs.declared.act.Record.{Record}
 use Rattle.call_types.specs.declared.limits.Limits.{Limits}
@@ -8,6 +8,7 @@ use Rattle.posix_model.specs.Types.{Bounds}
 use Rattle.posix_model.specs.History.{legal}
 use Rattle.script_text.specs.Answers.{answers_text}
 use Rattle.script_text.specs.Races.{race_script}
+use Rattle.script_text.specs.declared.fault.Expected.{Expected}
 use Rattle.script_text.specs.declared.races.RaceScript.{RaceScript}
 use Rattle.script_text.specs.declared.races.RaceFault.{RaceFault}
 use Rattle.script_text.specs.declared.races.RaceFault.TheVariants as races
@@ -23,7 +24,7 @@ use Rattle.race_outcomes.specs.declared.positions.Explored.{Explored}
 use Rattle.race_outcomes.specs.declared.setup.Setup.{Setup}
 use Rattle.race_outcomes.specs.declared.setup.Unready.TheVariants as unready
 use Rattle.job_core.specs.Output.{AppendsFront}
-use Rattle.job_core.specs.Replay.{OfInput}
+use Rattle.job_core.specs.Replay.{OfInput, ends_in_return}
 use Rattle.job_core.specs.Shown.{shown_lines}
 use Rattle.job_core.specs.declared.job_end.JobEnd.{JobEnd}
 use Rattle.job_core.specs.declared.job_end.JobEnd.TheVariants as ended
@@ -140,6 +141,14 @@ WritesToldFront bounds how old new text = (output : List ℕ) × Tells bounds ho
 abbrev pub IsNoRace : RaceFault → List ℕ → Type 0
 IsNoRace fault text = race_script text ≡ Err fault
 
+-- it is none by this line, which does not end in a carriage return
+abbrev pub IsBadLine : ℕ → ℕ → Expected → List ℕ → Type 0
+IsBadLine line column expected text = IsNoRace (races.BadLine line column expected) text × (ends_in_return text line ≡ false)
+
+-- it is none by a line that does
+abbrev pub IsBadReturn : ℕ → ℕ → List ℕ → Type 0
+IsBadReturn line column text = (expected : Expected) × IsNoRace (races.BadLine line column expected) text × (ends_in_return text line ≡ true)
+
 -- the text is the script of a race, but its acts before it do not come to an end, or a process is not attached that makes a call
 abbrev pub IsUnfit : Bounds → ℕ → Unfit → List ℕ → Type 0
 IsUnfit bounds line unfit.NoCall text = IsNoRace (races.NoCall line) text
@@ -160,7 +169,8 @@ abbrev pub OutcomesEnd : Limits → ℕ → Telling → Option (List ℕ) → Lo
 OutcomesEnd limits most how input old new ended.Done = OfInput input (WritesTold limits.bounds how (λ texts. texts ≢ []) old new)
 OutcomesEnd limits most how input old new ended.NoneAgrees = OfInput input (WritesTold limits.bounds how (λ texts. texts ≡ []) old new)
 OutcomesEnd limits most how input old new ended.NoSuchOutcome = OfInput input (LacksOutcome limits.bounds how) × (new ≡ old)
-OutcomesEnd limits most how input old new (ended.BadLine line column expected) = IfSome input (IsNoRace (races.BadLine line column expected)) × (new ≡ old)
+OutcomesEnd limits most how input old new (ended.BadLine line column expected) = IfSome input (IsBadLine line column expected) × (new ≡ old)
+OutcomesEnd limits most how input old new (ended.CarriageReturn line column) = IfSome input (IsBadReturn line column) × (new ≡ old)
 OutcomesEnd limits most how input old new (ended.BadAnswer line column) = IfSome input (IsNoRace (races.BadAnswer line column)) × (new ≡ old)
 OutcomesEnd limits most how input old new ended.NoRace = IfSome input (IsNoRace races.NoRace) × (new ≡ old)
 OutcomesEnd limits most how input old new ended.TooLong = IfSome input (IsNoRace races.TooLong) × (new ≡ old)

@@ -8,11 +8,11 @@ ghost use Rattle.race_outcomes.specs.Tellings.{texts};
 ghost use Rattle.job_core.specs.Outcomes.{IsReady, IsWitness, OutcomesEnd};
 ghost use Rattle.job_core.specs.Reads.{ReadsFew};
 ghost use Rattle.job_core.specs.Shown.{shown_lines};
-ghost use Rattle.job_core.specs.Proved.Racing.{end_of_fault, end_of_setup, IsUnready, GivesUp, IsSearch, IsToldIn, PutsTold, PutsWitness, PutsWitnesses, end_of_count, PrintsAll, PrintsOne, LacksNumber, Prints, IsUnprinted, IsUnsearched, IsToldWith, IsUntold};
+ghost use Rattle.job_core.specs.Proved.Racing.{end_of_fault, end_of_line, end_of_setup, IsUnready, GivesUp, IsSearch, IsToldIn, PutsTold, PutsWitness, PutsWitnesses, end_of_count, PrintsAll, PrintsOne, LacksNumber, Prints, IsUnprinted, IsUnsearched, IsToldWith, IsUntold};
 
 use crate::job_end::{JobEnd, Unfit};
 use crate::output::write_lines;
-use crate::replay::{READS_MAX, read_text};
+use crate::replay::{READS_MAX, ends_in_return, read_text};
 use crate::shown::{Form, Lines};
 use crate::telling::Telling;
 use call_types::act::{Act, Record};
@@ -27,26 +27,38 @@ use race_outcomes::search::{GivenUp, explore_race};
 use race_outcomes::setup::{Setup, Unready, absent, lanes_of, set_up};
 use race_outcomes::tellings::{Told, tellings};
 use race_outcomes::witness::records_along;
+use script_text::fault::Expected;
 use script_text::races::{RaceFault, RaceScript, read_race};
 use script_text::row::Row;
 use std::alloc::{AllocError, Global};
 use std::io::{Read, Write};
 use std::mem::forget;
 
-/// The end that a fault of the script of a race is.
-fn end_of_fault(fault: RaceFault) -> JobEnd
-    ensures { result ≡ end_of_fault fault }
+/// The end that a line of a text is that is no act.
+fn end_of_line(text: &[u8], line: usize, column: usize, expected: Expected) -> JobEnd
+    ensures { result ≡ end_of_line text.now line column expected }
+{
+    if ends_in_return(text, line) {
+        JobEnd::CarriageReturn { line, column }
+    } else {
+        JobEnd::BadLine {
+            line,
+            column,
+            expected,
+        }
+    }
+}
+
+/// The end that a fault of a text is that is to be the script of a race.
+fn end_of_fault(text: &[u8], fault: RaceFault) -> JobEnd
+    ensures { result ≡ end_of_fault text.now fault }
 {
     match fault {
         RaceFault::BadLine {
             line,
             column,
             expected,
-        } => JobEnd::BadLine {
-            line,
-            column,
-            expected,
-        },
+        } => end_of_line(text, line, column, expected),
         RaceFault::NoRace => JobEnd::NoRace,
         RaceFault::NoCall { line } => JobEnd::BadRace {
             line,
@@ -84,7 +96,7 @@ fn made_ready(alloc: Global, limits: Limits, text: &[u8]) -> Result<(RaceScript,
 {
     let script = match read_race(alloc, text) {
         Ok(script) => script,
-        Err(fault) => return Err(end_of_fault(fault)),
+        Err(fault) => return Err(end_of_fault(text, fault)),
     };
     let setup = match set_up(alloc, limits, script.setup.all()) {
         Ok(setup) => setup,

@@ -252,7 +252,7 @@ fn last_of_line(text: &[u8]) -> u8
 }
 
 /// Whether a line of a text, counted from 1, ends in a carriage return.
-fn ends_in_return(text: &[u8], line: usize) -> bool
+pub(crate) fn ends_in_return(text: &[u8], line: usize) -> bool
     ensures { result ≡ ends_in_return text.now line }
 {
     last_of_line(from_line(text, line.saturating_sub(1))) == b'\r'

@@ -4,6 +4,7 @@ use Rattle.std.specs.List.{All}
 use Rattle.call_types.specs.declared.act.Record.{Record}
 use Rattle.posix_model.specs.Types.{Bounds}
 use Rattle.posix_model.specs.History.{legal, world_of}
+use Rattle.script_text.specs.declared.fault.Expected.{Expected}
 use Rattle.script_text.specs.declared.races.RaceFault.{RaceFault}
 use Rattle.script_text.specs.declared.races.RaceFault.TheVariants as races
 use Rattle.race_outcomes.specs.Moves.{move}
@@ -15,7 +16,8 @@ use Rattle.race_outcomes.specs.Tellings.{AreTold, IsToldAt, outcome_line, outcom
 use Rattle.race_outcomes.specs.declared.tellings.Told.{Told}
 use Rattle.race_outcomes.specs.declared.setup.Unready.{Unready}
 use Rattle.race_outcomes.specs.declared.setup.Unready.TheVariants as unready
-use Rattle.job_core.specs.Outcomes.{AreWitnessLines, IsNoRace, IsUnfit, IsTooLarge, IsWitness, IsWritten, LacksOutcome, Tells}
+use Rattle.job_core.specs.Outcomes.{AreWitnessLines, IsBadLine, IsBadReturn, IsNoRace, IsUnfit, IsTooLarge, IsWitness, IsWritten, LacksOutcome, Tells}
+use Rattle.job_core.specs.Replay.{ends_in_return}
 use Rattle.job_core.specs.Shown.{shown_lines}
 use Rattle.job_core.specs.declared.job_end.JobEnd.{JobEnd}
 use Rattle.job_core.specs.declared.job_end.JobEnd.TheVariants as ended
@@ -25,14 +27,18 @@ use Rattle.job_core.specs.declared.shown.Form.{Form}
 use Rattle.job_core.specs.declared.telling.Telling.{Telling}
 use Rattle.job_core.specs.declared.telling.Telling.TheVariants as telling
 
--- the end that a fault of the script of a race is
-abbrev pub end_of_fault : RaceFault → JobEnd
-end_of_fault (races.BadLine line column expected) = ended.BadLine line column expected
-end_of_fault races.NoRace = ended.NoRace
-end_of_fault (races.NoCall line) = ended.BadRace line unfit.NoCall
-end_of_fault (races.BadAnswer line column) = ended.BadAnswer line column
-end_of_fault races.TooLong = ended.TooLong
-end_of_fault races.NoMemory = ended.NoMemory
+-- the end that a line of a text is that is no act
+abbrev pub end_of_line : List ℕ → (line column : ℕ) → Expected → JobEnd
+end_of_line text line column expected = if ends_in_return text line then ended.CarriageReturn line column else ended.BadLine line column expected
+
+-- the end that a fault of a text is that is to be the script of a race
+abbrev pub end_of_fault : List ℕ → RaceFault → JobEnd
+end_of_fault text (races.BadLine line column expected) = end_of_line text line column expected
+end_of_fault text races.NoRace = ended.NoRace
+end_of_fault text (races.NoCall line) = ended.BadRace line unfit.NoCall
+end_of_fault text (races.BadAnswer line column) = ended.BadAnswer line column
+end_of_fault text races.TooLong = ended.TooLong
+end_of_fault text races.NoMemory = ended.NoMemory
 
 -- the end that a setup is which cannot be made
 abbrev pub end_of_setup : Unready → JobEnd
@@ -42,7 +48,8 @@ end_of_setup unready.NoMemory = ended.NoMemory
 
 -- why the text is no race that can begin, unless memory ran out
 abbrev pub IsUnready : Bounds → List ℕ → JobEnd → Type 0
-IsUnready bounds text (ended.BadLine line column expected) = IsNoRace (races.BadLine line column expected) text
+IsUnready bounds text (ended.BadLine line column expected) = IsBadLine line column expected text
+IsUnready bounds text (ended.CarriageReturn line column) = IsBadReturn line column text
 IsUnready bounds text (ended.BadAnswer line column) = IsNoRace (races.BadAnswer line column) text
 IsUnready bounds text ended.NoRace = IsNoRace races.NoRace text
 IsUnready bounds text ended.TooLong = IsNoRace races.TooLong text
