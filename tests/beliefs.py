@@ -48,10 +48,14 @@ fdref SystemFiles.bytes_at: λ _ _. None
 fdref SystemFiles.is_taken: λ _ _. ⊤
 fdref SystemFiles.is_unmade: λ _ _. ⊤
 system_lock Front.as_front: λ f. f
+system_lock InRun.as_seat: λ s. s
 system_lock OneBook.marks: λ _ _. ⊤
 system_lock OneBook.says: λ _. anything
 system_lock SystemLock.marks: λ mark process. mark ≡ marked_at_doors process
 system_lock SystemLock.says: said_under L.limits
+system_lock Unlimited.book: L.book
+system_lock Unlimited.limits: None
+system_lock Unlimited.names: L.names
 trace_writer FileSink.contents: λ s. s.file.contents
 trace_writer FileSink.failures: λ s. s.failures
 trace_writer FileSink.is_sound: λ s. true

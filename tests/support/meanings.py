@@ -17,6 +17,9 @@ NAME = r"[^\W\d]\w*"
 WORD = re.compile(rf"(?<![\w.]){NAME}(?!\w| = )")
 FROM_PROVED = re.compile(rf"use Rattle\.\w+\.specs\.{PROVED}\.[\w.]*\{{([^}}]*)\}}")
 BLOCK = re.compile(r"^(?:pub(?:\([^)]*\))? )?(?P<kind>impl|trait)\b(?P<head>[^{]*)\{", re.MULTILINE)
+# What a block implements: a trait, whose arguments may be nested three deep, for a type.
+ARGUMENTS = r"<(?:[^<>]|<(?:[^<>]|<[^<>]*>)*>)*>"
+IMPLEMENTED = re.compile(rf"(?P<trait>{NAME})(?:{ARGUMENTS})?\s+for\s+(?P<name>{NAME}|\([^()]*\))")
 GHOST = re.compile(rf"^    ghost (?P<name>{NAME})(?: =|:) \{{", re.MULTILINE)
 
 
@@ -81,7 +84,7 @@ def owner_of(kind: str, head: str) -> tuple[str, str]:
     """The trait and the type of a block, by what stands before its brace. One that implements no trait has neither."""
     if kind == "trait":
         return re.findall(NAME, head)[0], ""
-    of_type = re.search(rf"(?P<trait>{NAME})(?:<(?:[^<>]|<[^<>]*>)*>)?\s+for\s+(?P<name>{NAME}|\([^()]*\))", head)
+    of_type = IMPLEMENTED.search(head)
     require(of_type or not re.search(r"\sfor\s", head), f"nobody knows what this implements: impl{head}")
     return (of_type["trait"], of_type["name"]) if of_type else ("", "")
 

@@ -1,5 +1,6 @@
 pub mod KernelLaws
 pub mod OpeningLaws
+pub mod OwnsLaws
 pub mod SaysLaws
 pub mod GrowLaws
 pub mod StirLaws

@@ -15,6 +15,7 @@ use Rattle.record_book.specs.Book.{BookState}
 use Rattle.record_book.specs.Counting.{counted_in}
 use Rattle.record_book.specs.Refusals.{is_ready_in, IsDue, join_refusal, attach_refusal, start_refusal, exit_refusal, resume_refusal}
 use Rattle.system_lock.specs.Kernel.{Says}
+use Rattle.system_lock.specs.Owns.{OwnsIn}
 use Rattle.system_lock.specs.declared.kernel.Why.{Why}
 use Rattle.system_lock.specs.declared.kernel.Why.TheVariants as why
 
@@ -24,9 +25,11 @@ pub record StandsUnder (limits : Option Limits) (b : BookState) : Type 0 where
   pub is_legal : IsLegalRun b.limits.bounds (Some b.limits.records) b.history
   pub house_is : b.house ≡ Some []
 
--- a book under such a lock that may have given this seat: what the seat counts is part of what the book counts
-pub record MayHaveGiven (limits : Option Limits) (s : SeatState) (b : BookState) : Type 0 where
+-- a book under such a lock that has given this seat its receipts: their records stand in it, each at its place, and what the seat counts
+-- is what these took and gave there, a part of what the book counts
+pub record HasGiven (limits : Option Limits) (s : SeatState) (b : BookState) : Type 0 where
   pub stands : StandsUnder limits b
+  pub owns : OwnsIn b.limits.bounds b.history s
   pub part : IsPartOf s.counted (counted_in b)
 
 -- a refusal of an opening that is due in this book
@@ -49,13 +52,13 @@ IsEndIn b s why.Lost = (resume_refusal b s ≡ None) × (is_ready_in b s.pid ≡
 abbrev pub IsNotOpened : Option Limits → List Record → Request → Refusal → Type 0
 IsNotOpened limits h request told = (b : BookState) × StandsUnder limits b × IsPrefix b.history h × IsNotOpenedIn b request told
 
--- a call is refused: that is due in some such book, which may have given the seat
+-- a call is refused: that is due in some such book, which has given the seat its receipts
 abbrev pub IsRefused : Option Limits → List Record → SeatState → Call → Refusal → Type 0
-IsRefused limits h s call told = (b : BookState) × MayHaveGiven limits s b × IsPrefix b.history h × IsDue (start_refusal b s call) told
+IsRefused limits h s call told = (b : BookState) × HasGiven limits s b × IsPrefix b.history h × IsDue (start_refusal b s call) told
 
 -- a process ends: for a reason that it may have in some such book
 abbrev pub IsEnded : Option Limits → List Record → SeatState → Why → Type 0
-IsEnded limits h s reason = (b : BookState) × MayHaveGiven limits s b × IsPrefix b.history h × IsEndIn b s reason
+IsEnded limits h s reason = (b : BookState) × HasGiven limits s b × IsPrefix b.history h × IsEndIn b s reason
 
 -- what the lock of a run with these limits and this history says
 abbrev pub said_under : Option Limits → List Record → Says

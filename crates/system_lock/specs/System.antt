@@ -1,8 +1,15 @@
 -- What stands under the lock of a run (own).
 use Rattle.std.specs.Prelude.{◌≡◌, ℕ, ◌==◌, Bool, true, false, List, All, is_some}
 use Rattle.std.specs.List.{list_any, AllPairs}
+use Rattle.logbook.specs.Pages.{Book}
 use Rattle.slots.specs.Slots.{slot}
+use Rattle.byte_ledger.specs.Counted.{Names}
 use Rattle.record_book.specs.Book.{BookState, world_now}
+
+-- what the ledgers of a run are called, and its history
+pub record RunNames : Type 0 where
+  pub names : Names
+  pub book : Book
 
 -- a book, the processes that sleep, and those whose connections are lost
 pub record SystemState : Type 0 where

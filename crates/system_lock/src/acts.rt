@@ -7,7 +7,7 @@ ghost use Rattle.system_lock.specs.Proved.Reasons.{OpensBy, IsReason, EndsByReas
 ghost use Rattle.system_lock.specs.Proved.Acts.{TriesBy};
 ghost use Rattle.system_lock.specs.Proved.Events.{OpensIn, CallsIn, ExitsIn, ExitIsDue, TriesIn, StillIsDue, GivesNoneUp};
 
-use crate::kernel::{Ended, EndedIn, Why};
+use crate::kernel::{Ended, Why};
 use byte_ledger::ledgers::Ledgers;
 use call_types::call::Call;
 use call_types::refusal::Refusal;
@@ -52,7 +52,7 @@ pub(crate) fn call<L: Ledgers>(
 }
 
 /// Records an exit for a reason other than `Foreign`. `Foreign` is returned where the book does not know the seat.
-pub(crate) fn exit<L: Ledgers>(book: &mut Book<L>, seat: Seat<L>, reason: Why) -> EndedIn<L>
+pub(crate) fn exit<L: Ledgers>(book: &mut Book<L>, seat: Seat<L>, reason: Why) -> EndedBy<L>
     requires { IsReason reason }
     ensures ends { EndsByReason seat reason result }
     ensures event { ExitsIn book.old book.new seat result.seat result.why }
@@ -77,8 +77,10 @@ pub(crate) enum Tried<S, P> {
     Ended(Ended<P>),
 }
 
-/// The same, of the seats of one book.
+/// These of the seats of one book.
 pub(crate) type TriedIn<L> = Tried<Seat<L>, SpentSeat<L>>;
+
+pub(crate) type EndedBy<L> = Ended<SpentSeat<L>>;
 
 /// Takes up the call that a process waits in, if it is ready; where that is refused, the process ends.
 #[tactic(auto, using(crate::proofs::DueLaws::memory_due))]

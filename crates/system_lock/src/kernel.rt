@@ -1,11 +1,13 @@
 //! What a session asks a kernel for.
 
 use crate::doors::Marked;
+use crate::run::Run;
+use crate::run_seat::{RunSeat, SpentRunSeat};
 use call_types::call::Call;
 use call_types::refusal::Refusal;
 use call_types::request::Request;
 use record_book::opening::Opened;
-use record_book::seat::{AsSeat, Receipt, Seat, SpentSeat};
+use record_book::seat::{AsSeat, Receipt};
 use run_history::front::{Front, OfHistory};
 use std::marker::{Model, PhantomData};
 use std::sync::Wait;
@@ -144,11 +146,16 @@ pub trait Kernel<S: AsSeat, P: AsSeat, F: AsFront> {
         ensures { marks result process };
 }
 
-/// These of the seats of one book.
-pub type AdmissionTo<L> = Admission<Seat<L>>;
+/// A kernel whose seats and fronts are those of one run.
+pub trait KernelOf<L: Run>: Kernel<RunSeat<L>, SpentRunSeat<L>, Front<L>> {}
+
+/// These of the seats of one run.
+pub type AdmissionTo<L> = Admission<RunSeat<L>>;
+
+pub type OpenedIn<L> = Opened<RunSeat<L>, SpentRunSeat<L>>;
 
 pub type NotOpenedIn<L> = NotOpened<AdmissionTo<L>>;
 
-pub type EndedIn<L> = Ended<SpentSeat<L>>;
+pub type EndedIn<L> = Ended<SpentRunSeat<L>>;
 
-pub type FinishedIn<L> = Finished<Seat<L>, SpentSeat<L>>;
+pub type FinishedIn<L> = Finished<RunSeat<L>, SpentRunSeat<L>>;

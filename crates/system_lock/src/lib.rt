@@ -9,6 +9,8 @@ pub mod lock;
 mod lost;
 pub mod one_book;
 mod past;
+pub mod run;
+pub mod run_seat;
 mod sleepers;
 mod stirred;
 pub mod system;

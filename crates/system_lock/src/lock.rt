@@ -10,17 +10,18 @@ use crate::acts::Tried;
 use crate::bells::Bells;
 use crate::doors::Marked;
 use crate::kernel::{
-    Admission, AdmissionTo, EndedIn, Finished, FinishedIn, Kernel, NotOpened, NotOpenedIn,
+    Admission, AdmissionTo, EndedIn, Finished, FinishedIn, Kernel, KernelOf, NotOpened,
+    NotOpenedIn, OpenedIn,
 };
+use crate::run::{NewRun, Run};
+use crate::run_seat::{RunSeat, SpentRunSeat, opened_in};
 use crate::system::System;
-use byte_ledger::ledgers::{Blanks, Ledgers};
 use call_types::call::Call;
 use call_types::limits::Limits;
 use call_types::refusal::Refusal;
 use call_types::request::Request;
-use record_book::opening::OpenedIn;
-use record_book::seat::{Receipt, Seat, SpentSeat};
-use run_history::front::{Begun, Front, OfHistory};
+use record_book::seat::Receipt;
+use run_history::front::Front;
 use std::alloc::{AllocError, Global};
 use std::sync::{Mutex, Wait};
 use trace_ring::trace_ring::TraceEnd;
@@ -29,28 +30,22 @@ use trace_ring::trace_ring::TraceEnd;
 /// whose call is not ready sleeps until an event makes it ready, or until its connection is lost: then its call is tried once more, and
 /// the process ends where it is still not ready. Its type names the ledgers and the limits of its book, so another book does not fit.
 #[derive(Drop)]
-pub struct SystemLock<L: Ledgers + OfHistory> {
+pub struct SystemLock<L: Run> {
     alloc: Global,
     system: Mutex<System<L>>,
     bells: Bells,
 }
 
-impl<L: Ledgers + OfHistory> SystemLock<L> {
+impl<L: Run> SystemLock<L> {
     /// The kernel of a run that has no records yet, under the limits that its type names, and the end at which the trace of its
     /// records is read. Nothing was read from it yet.
-    pub fn new(
-        alloc: Global,
-        limits: Limits,
-        blanks: Blanks,
-        begun: Begun,
-    ) -> Result<(Self, TraceEnd), AllocError>
-        requires ledgers { blanks ≡ L.names }
-        requires history { begun.seen.book ≡ L.book }
+    pub fn new(alloc: Global, limits: Limits, run: NewRun) -> Result<(Self, TraceEnd), AllocError>
+        requires named { run ≡ record { names = L.names; book = L.book } }
         requires limits { L.limits ≡ Some limits }
         ensures { IfOk result (λ pair. received pair.1 ≡ []) }
     {
         let bells = Bells::new(alloc)?;
-        let (system, trace) = System::new(alloc, limits, blanks, begun)?;
+        let (system, trace) = System::new(alloc, limits, run)?;
         let lock = SystemLock {
             alloc,
             system: Mutex::new(system),
@@ -75,7 +70,7 @@ impl<L: Ledgers + OfHistory> SystemLock<L> {
     }
 }
 
-impl<L: Ledgers + OfHistory> Kernel<Seat<L>, SpentSeat<L>, Front<L>> for SystemLock<L> {
+impl<L: Run> Kernel<RunSeat<L>, SpentRunSeat<L>, Front<L>> for SystemLock<L> {
     ghost use Rattle.std.specs.Prelude.{◌≡◌};
     ghost use Rattle.system_lock.specs.Says.{said_under};
     ghost use Rattle.system_lock.specs.System.{marked_at_doors};
@@ -100,7 +95,7 @@ impl<L: Ledgers + OfHistory> Kernel<Seat<L>, SpentSeat<L>, Front<L>> for SystemL
         let opened = system.open(rt, self.alloc, &self.bells, request);
         front.catch_up(system.front());
         match opened {
-            Ok(opened) => Ok(opened),
+            Ok(opened) => Ok(opened_in(opened, system.front())),
             Err(refusal) => Err(NotOpened { admission, refusal }),
         }
     }
@@ -109,16 +104,16 @@ impl<L: Ledgers + OfHistory> Kernel<Seat<L>, SpentSeat<L>, Front<L>> for SystemL
         &self,
         rt: &R,
         front: &mut Front<L>,
-        seat: &mut Seat<L>,
+        seat: &mut RunSeat<L>,
         call: Call,
     ) -> Result<Receipt, Refusal> {
         let mut system = self.system.lock(rt);
-        let told = system.call(rt, self.alloc, &self.bells, seat, call);
+        let told = seat.call(rt, self.alloc, &self.bells, &mut system, call);
         front.catch_up(system.front());
         told
     }
 
-    fn finish<R: Wait>(&self, rt: &R, front: &mut Front<L>, seat: Seat<L>) -> FinishedIn<L>
+    fn finish<R: Wait>(&self, rt: &R, front: &mut Front<L>, seat: RunSeat<L>) -> FinishedIn<L>
         ensures finishes { FinishesBy seat result }
         ensures grows { Grows front.old front.new }
         ensures ended { Since front.new (λ h. SaysEnded (IsEnded L.limits h) seat result) }
@@ -127,7 +122,7 @@ impl<L: Ledgers + OfHistory> Kernel<Seat<L>, SpentSeat<L>, Front<L>> for SystemL
         let mut seat = seat;
         let mut system = self.system.lock(rt);
         for _ in rt.forever() {
-            let tried = system.take_up(rt, self.alloc, &self.bells, seat);
+            let tried = seat.take_up(rt, self.alloc, &self.bells, &mut system);
             front.catch_up(system.front());
             seat = match tried {
                 Tried::Resumed { seat, receipt } => return Finished::Resumed { seat, receipt },
@@ -140,13 +135,13 @@ impl<L: Ledgers + OfHistory> Kernel<Seat<L>, SpentSeat<L>, Front<L>> for SystemL
         unreachable!()
     }
 
-    fn hang_up<R: Wait>(&self, rt: &R, front: &mut Front<L>, seat: Seat<L>) -> EndedIn<L>
+    fn hang_up<R: Wait>(&self, rt: &R, front: &mut Front<L>, seat: RunSeat<L>) -> EndedIn<L>
         ensures hangs_up { HangsUpBy seat result }
         ensures grows { Grows front.old front.new }
         ensures ended { Since front.new (λ h. IsEnded L.limits h seat result.why) }
     {
         let mut system = self.system.lock(rt);
-        let ended = system.hang_up(rt, &self.bells, seat);
+        let ended = seat.hang_up(rt, &self.bells, &mut system);
         front.catch_up(system.front());
         ended
     }
@@ -156,3 +151,5 @@ impl<L: Ledgers + OfHistory> Kernel<Seat<L>, SpentSeat<L>, Front<L>> for SystemL
         system.give_up(&self.bells, process)
     }
 }
+
+impl<L: Run> KernelOf<L> for SystemLock<L> {}

@@ -1,6 +1,7 @@
 //! The records of a run so far, as its history has them.
 
 ghost use Rattle.std.specs.Prelude.{◌≡◌, ◌∷◌, ◌++◌, []};
+ghost use Rattle.run_history.specs.Fronts.{Grows};
 
 use call_types::act::Record;
 use call_types::limits::RECORDS_MAX;
@@ -40,6 +41,20 @@ impl<H: OfHistory> Past<H> {
         ensures { result.now ≡ self.now }
     {
         &self.front
+    }
+
+    /// Sees that it has all records of a front. It waits for ever where it has not: that does not happen, since nobody else adds to the
+    /// history.
+    pub(crate) fn has_all_of<Rt: Wait>(&self, rt: &Rt, front: &Front<H>)
+        ensures { Grows front.now self.now }
+    {
+        if self.front.covers(front) {
+            return;
+        }
+        for _ in rt.forever() {
+            thread::yield_now();
+        }
+        unreachable!()
     }
 
     /// Adds a record. It waits for ever where the history has another one at this place, or as many as a run may have: neither happens,

@@ -3,7 +3,7 @@
 ghost use Rattle.std.specs.Prelude.{◌≡◌, [], None, Some, false, true, All, IfOk};
 ghost use Rattle.rtrb.specs.Ring.{received};
 ghost use Rattle.byte_ledger.specs.Counted.{IsPartOf};
-ghost use Rattle.record_book.specs.Counting.{counted_in};
+ghost use Rattle.record_book.specs.Counting.{CountsOwn, counted_in};
 ghost use Rattle.record_book.specs.Refusals.{resume_refusal, is_ready_in};
 ghost use Rattle.call_types.specs.declared.call.Call.{Call};
 ghost use Rattle.call_types.specs.declared.request.Request.{Request};
@@ -13,21 +13,22 @@ ghost use Rattle.record_book.specs.Book.{BookState};
 ghost use Rattle.system_lock.specs.Kernel.{AsksForASeat, CallsBy, EndsBy, HangsUpBy};
 ghost use Rattle.system_lock.specs.Proved.Reasons.{OpensBy, IsReason, EndsByReason};
 ghost use Rattle.system_lock.specs.Proved.Acts.{TriesBy};
+ghost use Rattle.system_lock.specs.Owns.{OwnsUnder};
 ghost use Rattle.system_lock.specs.Says.{StandsUnder};
 ghost use Rattle.system_lock.specs.System.{is_live_in, is_among, marked_at_doors, AreDistinct, AreLive, AreUnmarked};
 ghost use Rattle.system_lock.specs.Proved.Sleepers.{pipe_in};
 ghost use Rattle.system_lock.specs.Proved.Doors.{lost_with, asleep_without};
-ghost use Rattle.system_lock.specs.Proved.Events.{OpensIn, CallsIn, ExitsIn, ExitIsDue, TriesIn, GivesUpTheLost, IsLeftWaiting, still_asleep, still_lost, with_sleeper};
+ghost use Rattle.system_lock.specs.Proved.Events.{OpensIn, CallsIn, ExitsIn, ExitIsDue, TriesIn, GivesUpTheLost, IsLeftWaiting, opened_seat, still_asleep, still_lost, with_sleeper};
 ghost use Rattle.record_book.specs.Book.{new_book};
 
 use crate::acts;
-use crate::acts::{Tried, TriedIn};
+use crate::acts::{EndedBy, Tried, TriedIn};
 use crate::bells::Bells;
 use crate::doors::{Doors, Marked};
-use crate::kernel::{EndedIn, Why};
+use crate::kernel::Why;
 use crate::past::Past;
+use crate::run::{NewRun, Run};
 use crate::stirred::{Stirred, events_spare, opener, pipe_waited};
-use byte_ledger::ledgers::{Blanks, Ledgers};
 use call_types::call::Call;
 use call_types::limits::Limits;
 use call_types::refusal::Refusal;
@@ -36,7 +37,7 @@ use posix_model::laws::reserve_was_kept;
 use record_book::book::Book;
 use record_book::opening::{Opened, OpenedIn};
 use record_book::seat::{Receipt, Seat};
-use run_history::front::{Begun, Front, OfHistory};
+use run_history::front::Front;
 use std::alloc::{AllocError, Global};
 use std::marker::Model;
 use std::sync::Wait;
@@ -47,13 +48,13 @@ use trace_ring::trace_ring::TraceEnd;
 /// whose connections are lost. No process that sleeps is ready or lost or has ended, and the pipe of each is known. Those that are lost
 /// are live, and no two of them are the same.
 #[derive(Drop)]
-pub struct System<L: Ledgers + OfHistory> {
+pub struct System<L: Run> {
     book: Book<L>,
     past: Past<L>,
     doors: Doors,
 }
 
-impl<L: Ledgers + OfHistory> Model for System<L> {
+impl<L: Run> Model for System<L> {
     ghost use Rattle.std.specs.Prelude.{◌≡◌, [], Some, true};
     ghost use Rattle.system_lock.specs.System.{SystemState};
     ghost use Rattle.system_lock.specs.Proved.Doors.{DoorsSound};
@@ -66,13 +67,10 @@ impl<L: Ledgers + OfHistory> Model for System<L> {
 }
 
 /// Adds the record of an opening to those before it, if there is one.
-fn add_opening<Rt: Wait, L: Ledgers + OfHistory>(
-    rt: &Rt,
-    past: &mut Past<L>,
-    opened: &Result<OpenedIn<L>, Refusal>,
-)
+fn add_opening<Rt: Wait, L: Run>(rt: &Rt, past: &mut Past<L>, opened: &Result<OpenedIn<L>, Refusal>)
     requires { (request : Request) × OpensBy request opened.now }
-    ensures { (old new : BookState) (request : Request) → OpensIn old new request opened.now → past.old ≡ old.history → past.new ≡ new.history }
+    ensures past { (old new : BookState) (request : Request) → OpensIn old new request opened.now → past.old ≡ old.history → past.new ≡ new.history }
+    ensures own { IfOk opened.now (λ o. CountsOwn (opened_seat o).counted (opened_seat o).receipts) }
 {
     match opened {
         Ok(Opened::Seated(seat)) => past.add(rt, seat.receipts()[0].record()),
@@ -82,11 +80,7 @@ fn add_opening<Rt: Wait, L: Ledgers + OfHistory>(
 }
 
 /// Adds the record of a call to those before it, if there is one.
-fn add_call<Rt: Wait, L: Ledgers + OfHistory>(
-    rt: &Rt,
-    past: &mut Past<L>,
-    told: &Result<Receipt, Refusal>,
-)
+fn add_call<Rt: Wait, L: Run>(rt: &Rt, past: &mut Past<L>, told: &Result<Receipt, Refusal>)
     ensures { (old new : BookState) (s t : SeatState) (call : Call) → CallsIn old new s t call told.now → past.old ≡ old.history → past.new ≡ new.history }
 {
     if let Ok(receipt) = told {
@@ -95,7 +89,7 @@ fn add_call<Rt: Wait, L: Ledgers + OfHistory>(
 }
 
 /// Adds the record of an exit to those before it, if there is one.
-fn add_exit<Rt: Wait, L: Ledgers + OfHistory>(rt: &Rt, past: &mut Past<L>, ended: &EndedIn<L>)
+fn add_exit<Rt: Wait, L: Run>(rt: &Rt, past: &mut Past<L>, ended: &EndedBy<L>)
     requires { (old : SeatState) × EndsBy old ended.now.seat ended.now.why }
     ensures { (old new : BookState) (s : SeatState) → ExitsIn old new s ended.now.seat ended.now.why → past.old ≡ old.history → past.new ≡ new.history }
 {
@@ -108,21 +102,20 @@ fn add_exit<Rt: Wait, L: Ledgers + OfHistory>(rt: &Rt, past: &mut Past<L>, ended
     }
 }
 
-impl<L: Ledgers + OfHistory> System<L> {
+impl<L: Run> System<L> {
     /// A new book, in which no process sleeps or is lost, and the end at which the trace of its records is read.
     pub(crate) fn new(
         alloc: Global,
         limits: Limits,
-        blanks: Blanks,
-        begun: Begun,
+        run: NewRun,
     ) -> Result<(Self, TraceEnd), AllocError>
-        requires ledgers { blanks ≡ L.names }
-        requires history { begun.seen.book ≡ L.book }
+        requires named { run ≡ record { names = L.names; book = L.book } }
         requires limits { L.limits ≡ Some limits }
         ensures system { IfOk result (λ pair. pair.0 ≡ record { book_is = record (new_book limits) { is_traced = true }; asleep_are = []; lost_are = [] }) }
         ensures trace { IfOk result (λ pair. received pair.1 ≡ []) }
     {
         let doors = Doors::new(alloc)?;
+        let NewRun { blanks, begun } = run;
         let mut book = Book::new(alloc, limits, blanks)?;
         match book.trace_end() {
             Some(trace) => {
@@ -160,6 +153,14 @@ impl<L: Ledgers + OfHistory> System<L> {
         self.past.front()
     }
 
+    /// Sees that the book has all records of a front. It waits for ever where it has not: that does not happen, since only what stands
+    /// under the lock adds to the history.
+    pub fn has_all_of<Rt: Wait>(&self, rt: &Rt, front: &Front<L>)
+        ensures { Grows front.now self.now.book_is.history }
+    {
+        self.past.has_all_of(rt, front);
+    }
+
     /// The book. Its house has no receipt yet, and the end of its trace was taken.
     pub fn into_book(self) -> Book<L>
         ensures book { result ≡ self.book_is }
@@ -194,6 +195,7 @@ impl<L: Ledgers + OfHistory> System<L> {
         requires { AsksForASeat request }
         ensures opens { OpensBy request result }
         ensures event { OpensIn self.old.book_is self.new.book_is request result }
+        ensures owns { IfOk result (λ o. OwnsUnder L.limits self.new.book_is.history (opened_seat o)) }
         ensures grows { Grows self.old.book_is.history self.new.book_is.history }
         ensures stood { StandsUnder L.limits self.old.book_is }
         ensures asleep { self.new.asleep_are ≡ still_asleep self.new.book_is self.old.asleep_are }
@@ -303,7 +305,7 @@ impl<L: Ledgers + OfHistory> System<L> {
     }
 
     /// Records the exit of a process for a reason, and wakes whom it concerns.
-    fn exit<Rt: Wait>(&mut self, rt: &Rt, bells: &Bells, seat: Seat<L>, reason: Why) -> EndedIn<L>
+    fn exit<Rt: Wait>(&mut self, rt: &Rt, bells: &Bells, seat: Seat<L>, reason: Why) -> EndedBy<L>
         requires { IsReason reason }
         ensures ends { EndsByReason seat reason result }
         ensures event { ExitsIn self.old.book_is self.new.book_is seat result.seat result.why }
@@ -323,7 +325,7 @@ impl<L: Ledgers + OfHistory> System<L> {
     }
 
     /// Records the exit of a process that is hung up.
-    pub(crate) fn hang_up<Rt: Wait>(&mut self, rt: &Rt, bells: &Bells, seat: Seat<L>) -> EndedIn<L>
+    pub(crate) fn hang_up<Rt: Wait>(&mut self, rt: &Rt, bells: &Bells, seat: Seat<L>) -> EndedBy<L>
         ensures hangs_up { HangsUpBy seat result }
         ensures event { ExitsIn self.old.book_is self.new.book_is seat result.seat result.why }
         ensures grows { Grows self.old.book_is.history self.new.book_is.history }

@@ -10,6 +10,7 @@ use Rattle.call_types.specs.declared.refusal.Refusal.TheVariants as refusal
 use Rattle.record_book.specs.Seat.{Receipted, SeatState}
 use Rattle.record_book.specs.Book.{BookState, Records}
 use Rattle.record_book.specs.Openings.{Opened, Joins, Attaches}
+use Rattle.record_book.specs.declared.opening.Opened.TheVariants as opened
 use Rattle.record_book.specs.Resumes.{Resumes}
 use Rattle.record_book.specs.declared.resume.Resumed.TheVariants as resumed
 use Rattle.record_book.specs.Refusals.{IsDue, join_refusal, attach_refusal, start_refusal, exit_refusal, resume_refusal, is_ready_in}
@@ -28,6 +29,11 @@ OpensIn old new request.Join (Err refusal) = (new ≡ old) × IsDue (join_refusa
 OpensIn old new (request.Attach process) (Ok opened) = Attaches old new process opened
 OpensIn old new (request.Attach process) (Err refusal) = (new ≡ old) × IsDue (attach_refusal old process) refusal
 OpensIn old new (request.Call call) told = ⊥
+
+-- the seat that an opening gives, be it spent
+abbrev pub opened_seat : Opened → SeatState
+opened_seat (opened.Seated s) = s
+opened_seat (opened.Refused s) = s
 
 -- a call is recorded; or it is refused as is due, and book and seat are as they were
 abbrev pub CallsIn : BookState → BookState → SeatState → SeatState → Call → Result Receipted Refusal → Type 0

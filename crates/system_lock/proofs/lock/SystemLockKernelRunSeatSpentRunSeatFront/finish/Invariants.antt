@@ -1,6 +1,6 @@
 use Rattle.std.proofs.Common.{◌≡◌}
 use Rattle.run_history.specs.Fronts.{Grows}
-use Rattle.system_lock.proofs.lock.SystemLockKernelSeatSpentSeatFront.finish.Given as goal
+use Rattle.system_lock.proofs.lock.SystemLockKernelRunSeatSpentRunSeatFront.finish.Given as goal
 
 -- the seat stays as it was, and the front goes on
 abbrev pub invariant-loop : goal.invariant-loop

@@ -4,14 +4,12 @@ use Rattle.call_types.specs.declared.act.Record.{Record}
 use Rattle.system_lock.specs.System.{SystemState}
 use Rattle.record_book.specs.Seat.{SeatState}
 use Rattle.system_lock.specs.Says.{IsEnded}
-use Rattle.system_lock.proofs.SaysLaws.{ended_in}
-use Rattle.system_lock.proofs.lock.SystemLockKernelSeatSpentSeatFront.finish.Goals as goal
+use Rattle.system_lock.proofs.lock.SystemLockKernelRunSeatSpentRunSeatFront.finish.Goals as goal
 
 pub returns-in-Ended-clause-ended : goal.returns-in-Ended-clause-ended
 returns-in-Ended-clause-ended g c h p =
     subst (λ (s : SeatState). IsEnded g.L.Ledgers.limits h s c.in-Ended.ended.why) c.loop.invariant.seat
-    (ended_in _ h _ _ c.loop.seat c.in-Ended.ended.seat c.in-Ended.ended.why c.in-Ended.ensures.stood c.in-Ended.ensures.part
-    (c.in-Ended.ensures.grows h (subst (λ (l : List Record). IsPrefix l h) (c.front.ensures ∙ ap (λ (s : SystemState). s.book_is.history) c.deref.ensures) (c.catch_up.ensures.others h p))) c.in-Ended.ensures.event.0 c.in-Ended.ensures.event.1)
+    (c.in-Ended.ensures.ended h (subst (λ (l : List Record). IsPrefix l h) (c.front.ensures ∙ ap (λ (s : SystemState). s.book_is.history) c.deref.ensures) (c.catch_up.ensures.others h p)))
 
 pub returns-in-Resumed-clause-grows : goal.returns-in-Resumed-clause-grows
 returns-in-Resumed-clause-grows g c h p = c.loop.invariant.grows h (c.catch_up.ensures.own h p)

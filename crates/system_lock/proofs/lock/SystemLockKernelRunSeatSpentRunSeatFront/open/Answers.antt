@@ -4,7 +4,7 @@ use Rattle.call_types.specs.declared.act.Record.{Record}
 use Rattle.system_lock.specs.System.{SystemState}
 use Rattle.std.specs.Prelude.{Err}
 use Rattle.system_lock.proofs.SaysLaws.{not_opened_in}
-use Rattle.system_lock.proofs.lock.SystemLockKernelSeatSpentSeatFront.open.Goals as goal
+use Rattle.system_lock.proofs.lock.SystemLockKernelRunSeatSpentRunSeatFront.open.Goals as goal
 
 pub returns-clause-refused : goal.returns-clause-refused
 returns-clause-refused g c h p =

@@ -1,0 +1,157 @@
+-- What a seat owns in a history it owns in each that goes on from there, and with each record of its own it owns one more.
+use Rattle.std.proofs.Common.{◌≡◌, ◌∙◌, ℕ, ap, refl, sym, subst, arith, List, [], ◌∷◌, ◌++◌, append-nil, append_assoc, length-append, length, take, sum_by, Option, None, Some, Result, Ok, Err, All}
+use Rattle.std.proofs.lemmas.List.Elements.{All-nil, All-head, All-tail, All-weaker, All-push}
+use Rattle.std.proofs.lemmas.List.Sums.{sum_by-cons, sum_by_push}
+use Rattle.std.proofs.Math.Seq.{take-append_seam}
+use Rattle.std.specs.Option.{option_map_or}
+use mathlib.Core.List.{IsPrefix}
+use Rattle.call_types.specs.declared.act.Act.{Act}
+use Rattle.call_types.specs.declared.act.Act.TheVariants as act
+use Rattle.call_types.specs.declared.act.Record.{Record}
+use Rattle.call_types.specs.declared.call.Call.{Call}
+use Rattle.call_types.specs.declared.limits.Limits.{Limits}
+use Rattle.call_types.specs.declared.refusal.Refusal.{Refusal}
+use Rattle.call_types.specs.declared.request.Request.{Request}
+use Rattle.call_types.specs.declared.request.Request.TheVariants as request
+use Rattle.byte_ledger.specs.Counted.{Counted, counted_more}
+use Rattle.posix_model.specs.Types.{Bounds}
+use Rattle.posix_model.specs.declared.world.World.{World}
+use Rattle.posix_model.specs.History.{world_of}
+use Rattle.posix_model.specs.Turns.{took, gave, took_in, turn, total}
+use Rattle.record_book.specs.Seat.{Receipted, SeatState}
+use Rattle.record_book.specs.Book.{BookState, Records}
+use Rattle.record_book.specs.Counting.{CountsOwn, given_by, only_records}
+use Rattle.record_book.specs.Openings.{Opened, IsOpening}
+use Rattle.record_book.specs.declared.opening.Opened.TheVariants as opened
+use Rattle.run_history.specs.Fronts.{Grows}
+use Rattle.system_lock.specs.Owns.{StandsIn, taken_in, counted_of, OwnsIn, OwnsUnder}
+use Rattle.system_lock.specs.declared.kernel.Why.{Why}
+use Rattle.system_lock.specs.declared.kernel.Why.TheVariants as why
+use Rattle.system_lock.specs.declared.acts.Tried.TheVariants as tried
+use Rattle.system_lock.specs.Proved.Events.{OpensIn, CallsIn, ExitsIn, TriesIn, opened_seat}
+
+-- ---- a history that goes on
+
+pub itself_begins : (h : List Record) → IsPrefix h h
+itself_begins h = ([], append-nil h)
+
+begins_on : (a b c : List Record) → IsPrefix a b → IsPrefix b c → IsPrefix a c
+begins_on a b c p q = (p.0 ++ q.0, sym (append_assoc a p.0 q.0) ∙ ap (λ (l : List Record). l ++ q.0) p.1 ∙ q.1)
+
+stands_on : (f h : List Record) (r : Receipted) → IsPrefix f h → StandsIn f r → StandsIn h r
+stands_on f h r p s = record { before = s.before; place_is = s.place_is; begins = begins_on (s.before ++ r.record_is ∷ []) f h s.begins p }
+
+-- the records before the place of a receipt
+before_is : (h : List Record) (r : Receipted) → (s : StandsIn h r) → take r.place h ≡ s.before
+before_is h r s =
+    ap (λ (n : ℕ). take n h) (sym s.place_is) ∙
+    (ap (take (length s.before)) (sym s.begins.1 ∙ append_assoc s.before (r.record_is ∷ []) s.begins.0) ∙ take-append_seam s.before (r.record_is ∷ s.begins.0))
+
+taken_on : (bounds : Bounds) (f h : List Record) (r : Receipted) → IsPrefix f h → StandsIn f r → taken_in bounds h r ≡ taken_in bounds f r
+unfolding stands_on
+taken_on bounds f h r p s = ap (λ (l : List Record). took (world_of bounds l) r.record_is) (before_is h r (stands_on f h r p s) ∙ sym (before_is f r s))
+
+sums_on : (bounds : Bounds) (f h : List Record) (rs : List Receipted) → IsPrefix f h → All (StandsIn f) rs → sum_by (taken_in bounds h) rs ≡ sum_by (taken_in bounds f) rs
+sums_on bounds f h [] p all = refl
+sums_on bounds f h (r ∷ rs) p all =
+    let one = taken_on bounds f h r p (All-head (StandsIn f) r rs all) in
+    let rest = sums_on bounds f h rs p (All-tail (StandsIn f) r rs all) in
+    let more = sum_by-cons (taken_in bounds h) r rs in
+    let known = sum_by-cons (taken_in bounds f) r rs in
+    omega (arith, one, rest, more, known)
+
+counts_on : (bounds : Bounds) (f h : List Record) (rs : List Receipted) → IsPrefix f h → All (StandsIn f) rs → counted_of bounds h rs ≡ counted_of bounds f rs
+counts_on bounds f h rs p all = ap (λ (n : ℕ). record { records = length rs; bytes_in = n; bytes_out = sum_by given_by rs }) (sums_on bounds f h rs p all)
+
+owns_on : (bounds : Bounds) (f h : List Record) (s : SeatState) → IsPrefix f h → OwnsIn bounds f s → OwnsIn bounds h s
+owns_on bounds f h s p own = record {
+  stand = All-weaker (StandsIn f) (StandsIn h) (λ r. stands_on f h r p) s.receipts own.stand;
+  counts = own.counts ∙ sym (counts_on bounds f h s.receipts p own.stand);
+}
+
+pub owns_since : (limits : Option Limits) (f h : List Record) (s : SeatState) → IsPrefix f h → OwnsUnder limits f s → OwnsUnder limits h s
+owns_since None f h s p own = tt
+owns_since (Some l) f h s p own = owns_on l.bounds f h s p own
+
+pub owns_grown : (limits : Option Limits) (f h : List Record) (s : SeatState) → Grows f h → OwnsUnder limits f s → OwnsUnder limits h s
+owns_grown limits f h s grows own = owns_since limits f h s (grows h (itself_begins h)) own
+
+-- ---- one record more
+
+same_counts : (a b c x y z : ℕ) → a ≡ x → b ≡ y → c ≡ z → (let l : Counted = record { records = a; bytes_in = b; bytes_out = c } in l) ≡ record { records = x; bytes_in = y; bytes_out = z }
+same_counts a b c x y z p q r = rw p (rw q (rw r refl))
+
+-- the receipt of the record that comes next stands there
+next_stands : (h : List Record) (r : Receipted) → r.place ≡ length h → StandsIn (h ++ r.record_is ∷ []) r
+next_stands h r place = record { before = h; place_is = sym place; begins = itself_begins (h ++ r.record_is ∷ []) }
+
+one_more : (bounds : Bounds) (h : List Record) (s t : SeatState) (r : Receipted) → r.place ≡ length h → t.receipts ≡ s.receipts ++ r ∷ []
+    → t.counted ≡ counted_more (took (world_of bounds h) r.record_is) (gave (world_of bounds h) r.record_is) s.counted
+    → OwnsIn bounds h s → OwnsIn bounds (h ++ r.record_is ∷ []) t
+unfolding next_stands
+one_more bounds h s t r place receipts counts own =
+    let on = h ++ r.record_is ∷ [] in
+    let goes : IsPrefix h on = (r.record_is ∷ [], refl) in
+    let stands = next_stands h r place in
+    let before = sums_on bounds h on s.receipts goes own.stand in
+    let now : taken_in bounds on r ≡ took (world_of bounds h) r.record_is = ap (λ (l : List Record). took (world_of bounds l) r.record_is) (before_is on r stands) in
+    let taken = sum_by_push (taken_in bounds on) s.receipts r in
+    let given = sum_by_push given_by s.receipts r in
+    let longer = length-append s.receipts (r ∷ []) in
+    let own_counts = own.counts in
+    record {
+      stand = subst (All (StandsIn on)) (sym receipts) (All-push (StandsIn on) s.receipts r (All-weaker (StandsIn h) (StandsIn on) (λ x. stands_on h on x goes) s.receipts own.stand) stands);
+      counts = counts ∙
+          (ap (counted_more (took (world_of bounds h) r.record_is) (gave (world_of bounds h) r.record_is)) own.counts ∙
+          (same_counts _ _ _ _ _ _ (omega (arith, longer)) (omega (arith, before, now, taken)) (omega (arith, given)) ∙ ap (counted_of bounds on) (sym receipts)));
+    }
+
+pub owns_recorded : (limits : Option Limits) (old new : BookState) (s t : SeatState) (a : Act) (r : Receipted) → limits ≡ Some old.limits → OwnsUnder limits old.history s → Records old new s t a r → OwnsUnder limits new.history t
+owns_recorded limits old new s t a r is own h =
+    let known : OwnsIn old.limits.bounds old.history s = subst (λ (l : Option Limits). OwnsUnder l old.history s) is own in
+    let more = one_more old.limits.bounds old.history s t r h.appends.place h.receives.receipts h.counts known in
+    subst (λ (l : Option Limits). OwnsUnder l new.history t) (sym is) (subst (λ (l : List Record). OwnsIn old.limits.bounds l t) (sym h.appends.history) more)
+
+-- ---- the events under the lock
+
+-- a join and an attach take nothing
+took_first : (w : World) (r : Record) (a : Act) → r.act ≡ a → turn w r.actor a ≡ None → took w r ≡ 0
+took_first w r a is none = ap (λ (b : Act). option_map_or (took_in (total r.outcome)) (turn w r.actor b) 0) is ∙ ap (λ t. option_map_or (took_in (total r.outcome)) t 0) none
+
+owns_first : (limits : Option Limits) (old new : BookState) (process : ℕ) (a : Act) (s : SeatState) (r : Receipted) → limits ≡ Some old.limits → turn (world_of old.limits.bounds old.history) r.record_is.actor a ≡ None
+    → CountsOwn s.counted s.receipts → IsOpening old new process a s r → OwnsUnder limits new.history s
+owns_first limits old new process a s r is none counts opens =
+    let w = world_of old.limits.bounds old.history in
+    let bare : SeatState = record { pid = process; seen = 0; receipts = []; counted = only_records 0 } in
+    let nothing : OwnsIn old.limits.bounds old.history bare = record { stand = All-nil (StandsIn old.history); counts = refl } in
+    let all = subst (λ (x : SeatState). CountsOwn x.counted x.receipts) opens.seat counts in
+    let takes = took_first w r.record_is a opens.appends.act_is none in
+    let gives : given_by r ≡ 0 = (let sums = all.given_are in omega (arith, sums)) in
+    let counted : s.counted ≡ counted_more (took w r.record_is) (gave w r.record_is) (only_records 0) = ap (λ (x : SeatState). x.counted) opens.seat ∙ same_counts _ _ _ _ _ _ refl (omega (arith, takes)) (omega (arith, gives)) in
+    let more = one_more old.limits.bounds old.history bare s r opens.appends.place (ap (λ (x : SeatState). x.receipts) opens.seat) counted nothing in
+    subst (λ (l : Option Limits). OwnsUnder l new.history s) (sym is) (subst (λ (l : List Record). OwnsIn old.limits.bounds l s) (sym opens.appends.history) more)
+
+pub owns_opened : (limits : Option Limits) (old new : BookState) (asked : Request) (o : Opened) → limits ≡ Some old.limits → CountsOwn (opened_seat o).counted (opened_seat o).receipts → OpensIn old new asked (Ok o) → OwnsUnder limits new.history (opened_seat o)
+owns_opened limits old new request.Join (opened.Seated s) is counts h = owns_first limits old new _ act.Join s h.0 is refl counts h.1.1
+owns_opened limits old new request.Join (opened.Refused s) is counts h = owns_first limits old new _ act.Join s h.0 is refl counts h.1.1
+owns_opened limits old new (request.Attach process) (opened.Seated s) is counts h = owns_first limits old new process act.Attach s h.0 is refl counts h.1.1
+owns_opened limits old new (request.Attach process) (opened.Refused s) is counts h = owns_first limits old new process act.Attach s h.0 is refl counts h.1.1
+owns_opened limits old new (request.Call call) o is counts h = absurd h
+
+-- nothing was recorded
+owns_still : (limits : Option Limits) (old new : BookState) (s t : SeatState) → new ≡ old → t ≡ s → OwnsUnder limits old.history s → OwnsUnder limits new.history t
+owns_still limits old new s t same kept own = subst (λ (b : BookState). OwnsUnder limits b.history t) (sym same) (subst (OwnsUnder limits old.history) (sym kept) own)
+
+pub owns_called : (limits : Option Limits) (old new : BookState) (s t : SeatState) (asked : Call) (told : Result Receipted Refusal) → limits ≡ Some old.limits → OwnsUnder limits old.history s → CallsIn old new s t asked told → OwnsUnder limits new.history t
+owns_called limits old new s t asked (Ok r) is own h = owns_recorded limits old new s t (act.Call asked) r is own h
+owns_called limits old new s t asked (Err refusal) is own h = owns_still limits old new s t h.0 h.1 own
+
+pub owns_ended : (limits : Option Limits) (old new : BookState) (s t : SeatState) (reason : Why) → limits ≡ Some old.limits → OwnsUnder limits old.history s → ExitsIn old new s t reason → OwnsUnder limits new.history t
+owns_ended limits old new s t why.Foreign is own h = owns_still limits old new s t h.0 h.1 own
+owns_ended limits old new s t why.HungUp is own h = owns_recorded limits old new s t act.Exit h.0 is own h.1
+owns_ended limits old new s t why.NoMemory is own h = owns_recorded limits old new s t act.Exit h.0 is own h.1
+owns_ended limits old new s t why.RunFull is own h = owns_recorded limits old new s t act.Exit h.0 is own h.1
+owns_ended limits old new s t why.Lost is own h = owns_recorded limits old new s t act.Exit h.0 is own h.1
+
+pub owns_resumed : (limits : Option Limits) (old new : BookState) (s t : SeatState) (r : Receipted) → limits ≡ Some old.limits → OwnsUnder limits old.history s → TriesIn old new s (tried.Resumed t r) → OwnsUnder limits new.history t
+owns_resumed limits old new s t r is own h = owns_recorded limits old new s t act.Resume r is own h.1
