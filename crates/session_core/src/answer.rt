@@ -16,17 +16,17 @@ use crate::note::Note;
 use crate::output::Output;
 use crate::stage::{Stage, Standing, StandingOf};
 use crate::told::Told;
-use byte_ledger::ledgers::Ledgers;
 use call_types::request::Request;
 use logged_streams::writer::LoggedWriter;
-use record_book::seat::{Seat, SpentSeat};
 use rtrb::Consumer;
-use run_history::front::{Front, OfHistory};
+use run_history::front::Front;
 use std::alloc::Global;
 use std::io::Write;
 use std::marker::Model;
 use std::sync::Wait;
-use system_lock::kernel::{AdmissionTo, Kernel};
+use system_lock::kernel::{AdmissionTo, KernelOf};
+use system_lock::run::Run;
+use system_lock::run_seat::{RunSeat, SpentRunSeat};
 
 /// What a session holds of its run, with a seat of the kind `S`, a spent one of the kind `P`, or an admission of the kind `A`.
 #[derive(Drop)]
@@ -41,8 +41,8 @@ pub enum AnsweredSeat<S, P, A> {
 
 /// Requests that were answered. Contracts see it as an `AnsweredState`.
 #[derive(Drop)]
-pub struct Answered<W: Write, L: Ledgers> {
-    pub seat: AnsweredSeat<Seat<L>, SpentSeat<L>, AdmissionTo<L>>,
+pub struct Answered<W: Write, L: Run> {
+    pub seat: AnsweredSeat<RunSeat<L>, SpentRunSeat<L>, AdmissionTo<L>>,
     /// What was told, in order.
     pub answers: Vec<Told>,
     /// `None` where no more was read, or the kernel gave up the call that the process waited in.
@@ -53,7 +53,7 @@ pub struct Answered<W: Write, L: Ledgers> {
     pub writer: LoggedWriter<W>,
 }
 
-impl<W: Write, L: Ledgers> Model for Answered<W, L> {
+impl<W: Write, L: Run> Model for Answered<W, L> {
     ghost use Rattle.session_core.specs.Answering.{AnsweredState};
 
     ghost Value = { AnsweredState };
@@ -63,13 +63,7 @@ impl<W: Write, L: Ledgers> Model for Answered<W, L> {
 
 /// Takes up what a ring gives and writes each answer, until the session is over, its call is given up, or the note says that no more is
 /// read and the ring is empty.
-fn answer_all<
-    Rt: Wait,
-    W: Write + Connection,
-    G: Gate,
-    L: Ledgers + OfHistory,
-    K: Kernel<Seat<L>, SpentSeat<L>, Front<L>>,
->(
+fn answer_all<Rt: Wait, W: Write + Connection, G: Gate, L: Run, K: KernelOf<L>>(
     rt: &Rt,
     note: &Note,
     kernel: &K,
@@ -105,9 +99,9 @@ fn answer_all<
 }
 
 /// What is held by a session that is left with this seat.
-fn seat_of<L: Ledgers>(
-    seat: Result<SpentSeat<L>, AdmissionTo<L>>,
-) -> AnsweredSeat<Seat<L>, SpentSeat<L>, AdmissionTo<L>>
+fn seat_of<L: Run>(
+    seat: Result<SpentRunSeat<L>, AdmissionTo<L>>,
+) -> AnsweredSeat<RunSeat<L>, SpentRunSeat<L>, AdmissionTo<L>>
     ensures { result ≡ seat_of seat }
 {
     match seat {
@@ -117,7 +111,7 @@ fn seat_of<L: Ledgers>(
 }
 
 /// What was answered of a session that stands there, and takes up no more requests.
-fn answered_by<W: Write, G: Gate, L: Ledgers>(
+fn answered_by<W: Write, G: Gate, L: Run>(
     standing: StandingOf<L>,
     output: Output<W, G>,
     ring: Consumer<Request>,
@@ -146,13 +140,7 @@ fn answered_by<W: Write, G: Gate, L: Ledgers>(
 /// no more. Nothing was taken from the ring before. It ends of itself as a session does, and else once the note says so and the ring is
 /// empty, or the kernel has given up a call; then the seat is not hung up. The gate knows the session by its number. What is known of the
 /// run's history goes on from the front that is given, and is handed back.
-pub fn answer<
-    Rt: Wait,
-    W: Write + Connection + Drop,
-    G: Gate,
-    L: Ledgers + OfHistory,
-    K: Kernel<Seat<L>, SpentSeat<L>, Front<L>>,
->(
+pub fn answer<Rt: Wait, W: Write + Connection + Drop, G: Gate, L: Run, K: KernelOf<L>>(
     rt: &Rt,
     alloc: Global,
     ring: Consumer<Request>,

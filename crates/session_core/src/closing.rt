@@ -12,12 +12,13 @@ use crate::end::End;
 use crate::gate::Gate;
 use crate::output::Output;
 use crate::stage::{LeaveCause, LeftOf, LeftSession, Over, OverOf, Stage, StageOf};
-use byte_ledger::ledgers::Ledgers;
-use record_book::seat::{Receipt, Seat, SpentSeat};
-use run_history::front::{Front, OfHistory};
+use record_book::seat::Receipt;
+use run_history::front::Front;
 use std::io::Write;
 use std::sync::Wait;
-use system_lock::kernel::{Kernel, Why};
+use system_lock::kernel::{KernelOf, Why};
+use system_lock::run::Run;
+use system_lock::run_seat::{RunSeat, SpentRunSeat};
 
 /// The end of a session that has written all its answers.
 fn end_of(why: LeaveCause) -> End
@@ -46,13 +47,13 @@ fn send_last<W: Write, G: Gate>(output: &mut Output<W, G>, why: LeaveCause) -> E
 }
 
 /// Hangs up a process, and tells the end of its session.
-fn hang_up<Rt: Wait, L: Ledgers + OfHistory, K: Kernel<Seat<L>, SpentSeat<L>, Front<L>>>(
+fn hang_up<Rt: Wait, L: Run, K: KernelOf<L>>(
     rt: &Rt,
     kernel: &K,
     front: &mut Front<L>,
-    seat: Seat<L>,
+    seat: RunSeat<L>,
     end: End,
-) -> (SpentSeat<L>, End)
+) -> (SpentRunSeat<L>, End)
     ensures hangs_up { HangsUp seat end result.0 result.1 }
     ensures said { Since front.new (λ h. EndSaid (K.says h) None end → EndSaid (K.says h) (Some result.0) result.1) }
     ensures grows { Grows front.old front.new }
@@ -65,7 +66,7 @@ fn hang_up<Rt: Wait, L: Ledgers + OfHistory, K: Kernel<Seat<L>, SpentSeat<L>, Fr
 }
 
 /// Hangs up the process of a session, if there is one.
-fn leave<Rt: Wait, L: Ledgers + OfHistory, K: Kernel<Seat<L>, SpentSeat<L>, Front<L>>>(
+fn leave<Rt: Wait, L: Run, K: KernelOf<L>>(
     rt: &Rt,
     kernel: &K,
     front: &mut Front<L>,
@@ -88,7 +89,7 @@ fn leave<Rt: Wait, L: Ledgers + OfHistory, K: Kernel<Seat<L>, SpentSeat<L>, Fron
 }
 
 /// A session with this seat and end.
-fn left_by<L: Ledgers>(ended: (SpentSeat<L>, End), last: Option<Receipt>) -> LeftOf<L>
+fn left_by<L: Run>(ended: (SpentRunSeat<L>, End), last: Option<Receipt>) -> LeftOf<L>
     ensures { result ≡ record { seat = Ok ended.0; end = ended.1; last = last } }
 {
     let (seat, end) = ended;
@@ -101,18 +102,12 @@ fn left_by<L: Ledgers>(ended: (SpentSeat<L>, End), last: Option<Receipt>) -> Lef
 
 /// Leaves a session whose memory ran out for its last answer: the other answers are written, and its process is hung up. Where the
 /// writer fails, the last answer counts as one more that is not written.
-fn leave_untold<
-    Rt: Wait,
-    W: Write,
-    G: Gate,
-    L: Ledgers + OfHistory,
-    K: Kernel<Seat<L>, SpentSeat<L>, Front<L>>,
->(
+fn leave_untold<Rt: Wait, W: Write, G: Gate, L: Run, K: KernelOf<L>>(
     rt: &Rt,
     output: &mut Output<W, G>,
     kernel: &K,
     front: &mut Front<L>,
-    seat: Seat<L>,
+    seat: RunSeat<L>,
     receipt: Receipt,
 ) -> LeftOf<L>
     ensures all { LeavesAll output.old output.new (over.Untold seat receipt) result }
@@ -134,13 +129,7 @@ fn leave_untold<
 }
 
 /// Leaves a session that is over.
-pub(crate) fn leave_all<
-    Rt: Wait,
-    W: Write,
-    G: Gate,
-    L: Ledgers + OfHistory,
-    K: Kernel<Seat<L>, SpentSeat<L>, Front<L>>,
->(
+pub(crate) fn leave_all<Rt: Wait, W: Write, G: Gate, L: Run, K: KernelOf<L>>(
     rt: &Rt,
     output: &mut Output<W, G>,
     kernel: &K,

@@ -21,16 +21,16 @@ use crate::stage::{
     LeaveCause, LeftOf, Over, OverOf, Stage, StageOf, Standing, StandingOf, Turn, TurnOf,
 };
 use crate::turns::{take_next, wait_once};
-use byte_ledger::ledgers::Ledgers;
 use call_types::request::Request;
-use record_book::seat::{Seat, SpentSeat};
 use rtrb::Consumer;
-use run_history::front::{Front, OfHistory};
+use run_history::front::Front;
 use std::io::Write;
 use std::marker::{Brand, Model, PhantomData};
 use std::sync::Wait;
 use system_lock::doors::Marked;
-use system_lock::kernel::{AdmissionTo, Kernel};
+use system_lock::kernel::{AdmissionTo, KernelOf};
+use system_lock::run::Run;
+use system_lock::run_seat::RunSeat;
 
 /// Which session it is: the end of its ring that gives requests, and what its writer held at the start.
 pub(crate) trait Naming {
@@ -53,13 +53,7 @@ impl Naming for Brand {
 /// What answers the requests of a session: the end of the ring that gives them, the answers, and where the session stands. Its type
 /// names the session and its kernel.
 #[derive(Drop)]
-pub(crate) struct Desk<
-    D: Naming,
-    W: Write + Connection,
-    G: Gate,
-    L: Ledgers + OfHistory,
-    K: Kernel<Seat<L>, SpentSeat<L>, Front<L>>,
-> {
+pub(crate) struct Desk<D: Naming, W: Write + Connection, G: Gate, L: Run, K: KernelOf<L>> {
     pub(crate) consumer: Consumer<Request>,
     pub(crate) output: Output<W, G>,
     /// What is known of the history of the run.
@@ -70,13 +64,8 @@ pub(crate) struct Desk<
     kernel: PhantomData<K>,
 }
 
-impl<
-    D: Naming,
-    W: Write + Connection,
-    G: Gate,
-    L: Ledgers + OfHistory,
-    K: Kernel<Seat<L>, SpentSeat<L>, Front<L>>,
-> Model for Desk<D, W, G, L, K> {
+impl<D: Naming, W: Write + Connection, G: Gate, L: Run, K: KernelOf<L>> Model
+    for Desk<D, W, G, L, K> {
     ghost use Rattle.rtrb.specs.Ring.{received};
     ghost use Rattle.session_core.specs.DeskState.{DeskState};
     ghost use Rattle.run_history.specs.Fronts.{Since};
@@ -91,13 +80,7 @@ impl<
 }
 
 /// Leaves a session that is over, and shuts its connection.
-fn leave<
-    Rt: Wait,
-    W: Write + Connection,
-    G: Gate,
-    L: Ledgers + OfHistory,
-    K: Kernel<Seat<L>, SpentSeat<L>, Front<L>>,
->(
+fn leave_and_shut<Rt: Wait, W: Write + Connection, G: Gate, L: Run, K: KernelOf<L>>(
     rt: &Rt,
     output: &mut Output<W, G>,
     kernel: &K,
@@ -115,13 +98,7 @@ fn leave<
 
 /// Where a session stands after a turn. A session that is over is left now, unless its call was given up: how that one
 /// ends is known only when no more is read.
-fn stand<
-    Rt: Wait,
-    W: Write + Connection,
-    G: Gate,
-    L: Ledgers + OfHistory,
-    K: Kernel<Seat<L>, SpentSeat<L>, Front<L>>,
->(
+fn stand<Rt: Wait, W: Write + Connection, G: Gate, L: Run, K: KernelOf<L>>(
     rt: &Rt,
     output: &mut Output<W, G>,
     kernel: &K,
@@ -137,18 +114,12 @@ fn stand<
         Turn::GoesOn(stage) => Standing::Ready(stage),
         Turn::Waits(seat) => Standing::Waits(seat),
         Turn::Lost(seat) => Standing::Lost(seat),
-        Turn::Over(over) => Standing::Left(leave(rt, output, kernel, front, over)),
+        Turn::Over(over) => Standing::Left(leave_and_shut(rt, output, kernel, front, over)),
     }
 }
 
 /// Takes up what the ring holds, until it is empty, a call waits or the session is over.
-fn take_ring<
-    Rt: Wait,
-    W: Write,
-    G: Gate,
-    L: Ledgers + OfHistory,
-    K: Kernel<Seat<L>, SpentSeat<L>, Front<L>>,
->(
+fn take_ring<Rt: Wait, W: Write, G: Gate, L: Run, K: KernelOf<L>>(
     rt: &Rt,
     note: &Note,
     kernel: &K,
@@ -179,13 +150,7 @@ fn take_ring<
 }
 
 /// Takes up what the ring holds, if a request may be taken up.
-pub(crate) fn take_ready<
-    Rt: Wait,
-    W: Write + Connection,
-    G: Gate,
-    L: Ledgers + OfHistory,
-    K: Kernel<Seat<L>, SpentSeat<L>, Front<L>>,
->(
+pub(crate) fn take_ready<Rt: Wait, W: Write + Connection, G: Gate, L: Run, K: KernelOf<L>>(
     rt: &Rt,
     note: &Note,
     kernel: &K,
@@ -211,7 +176,7 @@ pub(crate) fn take_ready<
 }
 
 /// Writes the answers of a session that goes on.
-fn write_out<W: Write, G: Gate, L: Ledgers + OfHistory, K: Kernel<Seat<L>, SpentSeat<L>, Front<L>>>(
+fn write_out<W: Write, G: Gate, L: Run, K: KernelOf<L>>(
     output: &mut Output<W, G>,
     stage: StageOf<L>,
 ) -> TurnOf<L>
@@ -226,13 +191,7 @@ fn write_out<W: Write, G: Gate, L: Ledgers + OfHistory, K: Kernel<Seat<L>, Spent
 }
 
 /// Writes the answers of a session, if a request may be taken up.
-pub(crate) fn send_ready<
-    Rt: Wait,
-    W: Write + Connection,
-    G: Gate,
-    L: Ledgers + OfHistory,
-    K: Kernel<Seat<L>, SpentSeat<L>, Front<L>>,
->(
+pub(crate) fn send_ready<Rt: Wait, W: Write + Connection, G: Gate, L: Run, K: KernelOf<L>>(
     rt: &Rt,
     kernel: &K,
     front: &mut Front<L>,
@@ -256,18 +215,12 @@ pub(crate) fn send_ready<
 }
 
 /// Waits until a call goes on.
-pub(crate) fn wait_on<
-    Rt: Wait,
-    W: Write + Connection,
-    G: Gate,
-    L: Ledgers + OfHistory,
-    K: Kernel<Seat<L>, SpentSeat<L>, Front<L>>,
->(
+pub(crate) fn wait_on<Rt: Wait, W: Write + Connection, G: Gate, L: Run, K: KernelOf<L>>(
     rt: &Rt,
     kernel: &K,
     front: &mut Front<L>,
     output: &mut Output<W, G>,
-    seat: Seat<L>,
+    seat: RunSeat<L>,
 ) -> StandingOf<L>
     ensures stands { Since front.new (λ h. (taken : List Request) → StandsOn (K.says h) taken output.old (standings.Waits seat) taken output.new result) }
     ensures shut { ShutIfLeft W.was_shut output.new result }
@@ -278,13 +231,7 @@ pub(crate) fn wait_on<
 }
 
 /// Waits until a call goes on, where one waits.
-fn wait_ready<
-    Rt: Wait,
-    W: Write + Connection,
-    G: Gate,
-    L: Ledgers + OfHistory,
-    K: Kernel<Seat<L>, SpentSeat<L>, Front<L>>,
->(
+fn wait_ready<Rt: Wait, W: Write + Connection, G: Gate, L: Run, K: KernelOf<L>>(
     rt: &Rt,
     kernel: &K,
     front: &mut Front<L>,
@@ -304,11 +251,11 @@ fn wait_ready<
 }
 
 /// Tells that the connection of a process is lost, if there is one. What it gives shows that this was told.
-pub(crate) fn tell_lost<
-    Rt: Wait,
-    L: Ledgers + OfHistory,
-    K: Kernel<Seat<L>, SpentSeat<L>, Front<L>>,
->(rt: &Rt, kernel: &K, process: Option<u32>) -> Option<Marked>
+pub(crate) fn tell_lost<Rt: Wait, L: Run, K: KernelOf<L>>(
+    rt: &Rt,
+    kernel: &K,
+    process: Option<u32>,
+) -> Option<Marked>
     ensures { IsToldOf K.marks process result }
 {
     match process {
@@ -328,7 +275,7 @@ fn is_opening<S, A>(stage: &Stage<S, A>) -> bool
 }
 
 /// The process of a session at which a request may be taken up, if there is one.
-fn ready_process<L: Ledgers>(standing: &StandingOf<L>) -> Option<u32>
+fn ready_process<L: Run>(standing: &StandingOf<L>) -> Option<u32>
     ensures { result ≡ ready_process standing.now }
 {
     match standing {
@@ -341,13 +288,7 @@ fn ready_process<L: Ledgers>(standing: &StandingOf<L>) -> Option<u32>
 }
 
 /// Takes up a request when no more is read. A process that it opens has lost its connection already: that is told, and what shows it is given.
-fn take_late<
-    Rt: Wait,
-    W: Write + Connection,
-    G: Gate,
-    L: Ledgers + OfHistory,
-    K: Kernel<Seat<L>, SpentSeat<L>, Front<L>>,
->(
+fn take_late<Rt: Wait, W: Write + Connection, G: Gate, L: Run, K: KernelOf<L>>(
     rt: &Rt,
     note: &Note,
     kernel: &K,
@@ -375,13 +316,7 @@ fn take_late<
 
 /// Answers the `count` requests that are still in the ring, once both its ends are in one thread. Then it leaves the
 /// session, for the reason that ended its reads.
-pub(crate) fn leave_requests<
-    Rt: Wait,
-    W: Write + Connection,
-    G: Gate,
-    L: Ledgers + OfHistory,
-    K: Kernel<Seat<L>, SpentSeat<L>, Front<L>>,
->(
+pub(crate) fn leave_requests<Rt: Wait, W: Write + Connection, G: Gate, L: Run, K: KernelOf<L>>(
     rt: &Rt,
     note: &Note,
     kernel: &K,
@@ -404,7 +339,7 @@ pub(crate) fn leave_requests<
         standing = match standing {
             Standing::Ready(stage) => {
                 if count == 0 {
-                    return leave(rt, output, kernel, front, Over::Leaves { stage, why });
+                    return leave_and_shut(rt, output, kernel, front, Over::Leaves { stage, why });
                 }
                 count -= 1;
                 let (after, _told) = take_late(
@@ -419,7 +354,7 @@ pub(crate) fn leave_requests<
                 after
             }
             Standing::Waits(seat) => wait_on(rt, kernel, front, output, seat),
-            Standing::Lost(seat) => return leave(
+            Standing::Lost(seat) => return leave_and_shut(
                 rt,
                 output,
                 kernel,
@@ -444,7 +379,7 @@ pub(crate) enum Attended {
 }
 
 /// What a desk has come to, by where its session stands.
-fn attended_by<L: Ledgers>(standing: &StandingOf<L>) -> Attended
+fn attended_by<L: Run>(standing: &StandingOf<L>) -> Attended
     ensures { result ≡ attended_by standing.now }
 {
     match standing {
@@ -455,7 +390,7 @@ fn attended_by<L: Ledgers>(standing: &StandingOf<L>) -> Attended
 }
 
 /// Puts back where a session stands, and says what its desk has come to.
-fn put_back<L: Ledgers>(place: &mut Option<StandingOf<L>>, standing: StandingOf<L>) -> Attended
+fn put_back<L: Run>(place: &mut Option<StandingOf<L>>, standing: StandingOf<L>) -> Attended
     ensures place { place.new ≡ Some standing }
     ensures attended { result ≡ attended_by standing }
 {
@@ -464,13 +399,7 @@ fn put_back<L: Ledgers>(place: &mut Option<StandingOf<L>>, standing: StandingOf<
     attended
 }
 
-impl<
-    D: Naming,
-    W: Write + Connection,
-    G: Gate,
-    L: Ledgers + OfHistory,
-    K: Kernel<Seat<L>, SpentSeat<L>, Front<L>>,
-> Desk<D, W, G, L, K> {
+impl<D: Naming, W: Write + Connection, G: Gate, L: Run, K: KernelOf<L>> Desk<D, W, G, L, K> {
     ghost use Rattle.std.specs.Prelude.{◌≡◌, [], Some};
     ghost use Rattle.rtrb.specs.Ring.{received};
     ghost use Rattle.session_core.specs.Proved.Output.{fresh_output};

@@ -22,32 +22,32 @@ use crate::stage::LeaveCause;
 use crate::starter::Starter;
 use crate::threads::{Helper, Pushed, Shared, start_reading};
 use crate::told::Told;
-use byte_ledger::ledgers::Ledgers;
 use call_types::request::Request;
 use logged_streams::reader::LoggedReader;
 use logged_streams::writer::LoggedWriter;
-use record_book::seat::{Seat, SpentSeat};
 use request_pump::bell::RingCount;
 use request_pump::inlet::PushLog;
 use request_pump::pumped::PumpEnd;
 use rtrb::{Consumer, Producer, RingBuffer};
-use run_history::front::{Front, OfHistory};
+use run_history::front::Front;
 use std::alloc::{AllocError, Global};
 use std::io::{Read, Write};
 use std::marker::{Brand, Model};
 use std::sync::{Arc, Wait};
 use std::thread::Threads;
-use system_lock::kernel::{AdmissionTo, Kernel};
+use system_lock::kernel::{AdmissionTo, KernelOf};
+use system_lock::run::Run;
+use system_lock::run_seat::SpentRunSeat;
 
 /// How many requests may wait to be answered.
 pub const REQUESTS_AHEAD: usize = 16;
 
 /// A session that is over. Contracts see it as a `SessionState`.
 #[derive(Drop)]
-pub struct Served<R: Read, W: Write, L: Ledgers> {
+pub struct Served<R: Read, W: Write, L: Run> {
     /// The seat of its process. Its last receipt is that of the exit, except at `End::Foreign`. Where the opening was refused in the
     /// record, the seat has only the receipt of that. Where no opening was recorded, the admission is handed back.
-    pub seat: Result<SpentSeat<L>, AdmissionTo<L>>,
+    pub seat: Result<SpentRunSeat<L>, AdmissionTo<L>>,
     /// What it told its client, in order.
     pub answers: Vec<Told>,
     pub end: End,
@@ -59,7 +59,7 @@ pub struct Served<R: Read, W: Write, L: Ledgers> {
     pub pushes: PushLog,
 }
 
-impl<R: Read, W: Write, L: Ledgers> Model for Served<R, W, L> {
+impl<R: Read, W: Write, L: Run> Model for Served<R, W, L> {
     ghost use Rattle.std.specs.Result.{result_ok};
     ghost use Rattle.session_core.specs.Served.{SessionState};
 
@@ -79,8 +79,8 @@ pub fn serve<
     R: Read + Send + Drop + 'static,
     W: Write + Connection + Send + Drop + 'static,
     G: Gate + Send + 'static,
-    L: Ledgers + OfHistory + Send + Sync + 'static,
-    K: Kernel<Seat<L>, SpentSeat<L>, Front<L>> + Send + Sync + Drop + 'static,
+    L: Run + Send + Sync + 'static,
+    K: KernelOf<L> + Send + Sync + Drop + 'static,
 >(
     rt: Rt,
     alloc: Global,
@@ -127,8 +127,8 @@ fn serve_named<
     D: Naming + Send + Sync + 'static,
     W: Write + Connection + Send + Drop + 'static,
     G: Gate + Send + 'static,
-    L: Ledgers + OfHistory + Send + Sync + 'static,
-    K: Kernel<Seat<L>, SpentSeat<L>, Front<L>> + Send + Sync + Drop + 'static,
+    L: Run + Send + Sync + 'static,
+    K: KernelOf<L> + Send + Sync + Drop + 'static,
 >(
     rt: Rt,
     alloc: Global,
@@ -172,8 +172,8 @@ fn serve_shared<
     D: Naming + Send + Sync + 'static,
     W: Write + Connection + Send + Drop + 'static,
     G: Gate + Send + 'static,
-    L: Ledgers + OfHistory + Send + Sync + 'static,
-    K: Kernel<Seat<L>, SpentSeat<L>, Front<L>> + Send + Sync + Drop + 'static,
+    L: Run + Send + Sync + 'static,
+    K: KernelOf<L> + Send + Sync + Drop + 'static,
 >(
     rt: Rt,
     alloc: Global,
@@ -220,8 +220,8 @@ fn shared_twice<
     D: Naming,
     W: Write + Connection + Drop,
     G: Gate,
-    L: Ledgers + OfHistory,
-    K: Kernel<Seat<L>, SpentSeat<L>, Front<L>> + Drop,
+    L: Run,
+    K: KernelOf<L> + Drop,
 >(
     rt: Rt,
     alloc: Global,
@@ -258,8 +258,8 @@ fn leave_rest<
     D: Naming,
     W: Write + Connection + Drop,
     G: Gate,
-    L: Ledgers + OfHistory,
-    K: Kernel<Seat<L>, SpentSeat<L>, Front<L>>,
+    L: Run,
+    K: KernelOf<L>,
 >(rt: &Rt, shared: &Shared<D, W, G, L, K>, pushed: Pushed<R>) -> (Served<R, W, L>, Front<L>)
     requires { IsNamedPair D.ring pushed.producer }
     ensures settles { Since result.1 (λ h. Settles (K.says h) G.is_open D.base pushed result.0) }
@@ -308,7 +308,7 @@ fn leave_rest<
 }
 
 /// A session that has read nothing.
-fn unserved<R: Read, W: Write + Connection + Drop, L: Ledgers>(
+fn unserved<R: Read, W: Write + Connection + Drop, L: Run>(
     alloc: Global,
     reader: Option<R>,
     writer: LoggedWriter<W>,
@@ -334,7 +334,7 @@ fn unserved<R: Read, W: Write + Connection + Drop, L: Ledgers>(
 }
 
 /// A session for which no thread reads. It has answered nothing.
-fn unstarted<R: Read, W: Write + Connection + Drop, G: Gate, L: Ledgers>(
+fn unstarted<R: Read, W: Write + Connection + Drop, G: Gate, L: Run>(
     alloc: Global,
     reader: Option<R>,
     output: Output<W, G>,

@@ -1,8 +1,9 @@
 //! How far a session has come, and how it ends.
 
 use crate::end::End;
-use record_book::seat::{Receipt, Seat, SpentSeat};
+use record_book::seat::Receipt;
 use system_lock::kernel::AdmissionTo;
+use system_lock::run_seat::{RunSeat, SpentRunSeat};
 
 /// How far a session has come, with a seat of the kind `S` or an admission of the kind `A`.
 #[derive(Drop)]
@@ -82,12 +83,12 @@ pub(crate) enum Standing<S, P, A> {
 }
 
 /// Each of these for the seats of one book.
-pub(crate) type StageOf<L> = Stage<Seat<L>, AdmissionTo<L>>;
+pub(crate) type StageOf<L> = Stage<RunSeat<L>, AdmissionTo<L>>;
 
-pub(crate) type OverOf<L> = Over<Seat<L>, SpentSeat<L>, AdmissionTo<L>>;
+pub(crate) type OverOf<L> = Over<RunSeat<L>, SpentRunSeat<L>, AdmissionTo<L>>;
 
-pub(crate) type TurnOf<L> = Turn<Seat<L>, SpentSeat<L>, AdmissionTo<L>>;
+pub(crate) type TurnOf<L> = Turn<RunSeat<L>, SpentRunSeat<L>, AdmissionTo<L>>;
 
-pub(crate) type LeftOf<L> = LeftSession<SpentSeat<L>, AdmissionTo<L>>;
+pub(crate) type LeftOf<L> = LeftSession<SpentRunSeat<L>, AdmissionTo<L>>;
 
-pub(crate) type StandingOf<L> = Standing<Seat<L>, SpentSeat<L>, AdmissionTo<L>>;
+pub(crate) type StandingOf<L> = Standing<RunSeat<L>, SpentRunSeat<L>, AdmissionTo<L>>;

@@ -10,16 +10,13 @@ use crate::desk::{Attended, Desk, Naming, tell_lost};
 use crate::gate::Gate;
 use crate::note::{KnownProcess, Note};
 use crate::starter::{StartFailed, Starter, start};
-use byte_ledger::ledgers::Ledgers;
 use call_types::request::Request;
 use logged_streams::reader::LoggedReader;
-use record_book::seat::{Seat, SpentSeat};
 use request_pump::bell::{Bell, RingCount};
 use request_pump::inlet::PushLog;
 use request_pump::pump::pump;
 use request_pump::pumped::{PumpEnd, Pumped};
 use rtrb::Producer;
-use run_history::front::{Front, OfHistory};
 use std::alloc::Global;
 use std::io::{Read, Write};
 use std::marker::Model;
@@ -28,7 +25,8 @@ use std::sync::{Arc, Mutex, Wait};
 use std::thread;
 use std::thread::{Promise, PromisedHandle, Threads};
 use system_lock::doors::Marked;
-use system_lock::kernel::Kernel;
+use system_lock::kernel::KernelOf;
+use system_lock::run::Run;
 
 /// What shows that the end of the reads was told: to the kernel too, where the session has a process. Only `ReadingTold::by` makes one.
 #[derive(Drop)]
@@ -41,10 +39,7 @@ impl ReadingTold {
     ghost use Rattle.session_core.specs.Proved.Losing.{IsToldOf};
 
     /// Shows it by the kernel's mark of the process, if there is one.
-    fn by<L: Ledgers + OfHistory, K: Kernel<Seat<L>, SpentSeat<L>, Front<L>>>(
-        process: KnownProcess,
-        mark: Option<Marked>,
-    ) -> Self
+    fn by<L: Run, K: KernelOf<L>>(process: KnownProcess, mark: Option<Marked>) -> Self
         requires { IsToldOf K.marks process mark }
     {
         ReadingTold { process, mark }
@@ -54,25 +49,19 @@ impl ReadingTold {
 /// What the two threads of a session share. The desk is put there as the thread that reads starts. Whoever answers holds its lock; the
 /// thread that waits in a call takes the desk away, and puts it back when the call has gone on.
 #[derive(Drop)]
-pub(crate) struct Shared<
-    D: Naming,
-    W: Write + Connection,
-    G: Gate,
-    L: Ledgers + OfHistory,
-    K: Kernel<Seat<L>, SpentSeat<L>, Front<L>>,
-> {
+pub(crate) struct Shared<D: Naming, W: Write + Connection, G: Gate, L: Run, K: KernelOf<L>> {
     pub(crate) desk: Mutex<Option<Desk<D, W, G, L, K>>>,
     pub(crate) note: Note,
     pub(crate) kernel: Arc<K>,
 }
 
-impl<
-    D: Naming,
-    W: Write + Connection + Drop,
-    G: Gate,
-    L: Ledgers + OfHistory,
-    K: Kernel<Seat<L>, SpentSeat<L>, Front<L>>,
-> Shared<D, W, G, L, K> {
+impl<D: Naming, W: Write + Connection + Drop, G: Gate, L: Run, K: KernelOf<L>> Shared<
+    D,
+    W,
+    G,
+    L,
+    K,
+> {
     /// What they share before the first is read.
     pub(crate) fn new(kernel: Arc<K>) -> Self {
         Shared {
@@ -167,8 +156,8 @@ pub(crate) struct Helper<
     D: Naming,
     W: Write + Connection + Drop,
     G: Gate,
-    L: Ledgers + OfHistory,
-    K: Kernel<Seat<L>, SpentSeat<L>, Front<L>> + Drop,
+    L: Run,
+    K: KernelOf<L> + Drop,
 > {
     pub(crate) rt: Rt,
     pub(crate) shared: Arc<Shared<D, W, G, L, K>>,
@@ -181,8 +170,8 @@ impl<
     D: Naming,
     W: Write + Connection + Drop,
     G: Gate,
-    L: Ledgers + OfHistory,
-    K: Kernel<Seat<L>, SpentSeat<L>, Front<L>> + Drop,
+    L: Run,
+    K: KernelOf<L> + Drop,
 > Bell for Helper<Rt, D, W, G, L, K> {
     ghost rings = { λ h. h.rings };
 
@@ -202,8 +191,8 @@ impl<
     D: Naming,
     W: Write + Connection + Drop,
     G: Gate,
-    L: Ledgers + OfHistory,
-    K: Kernel<Seat<L>, SpentSeat<L>, Front<L>> + Drop,
+    L: Run,
+    K: KernelOf<L> + Drop,
 > Attendant for Helper<Rt, D, W, G, L, K> {
     fn end_reading(&self) -> ReadingTold {
         self.shared.end_reading(&self.rt)

@@ -13,18 +13,19 @@ use crate::gate::Gate;
 use crate::note::Note;
 use crate::output::Output;
 use crate::stage::{LeaveCause, Over, Stage, StageOf, Turn, TurnOf};
-use byte_ledger::ledgers::Ledgers;
 use call_types::call::Call;
 use call_types::outcome::Outcome;
 use call_types::refusal::Refusal;
 use call_types::request::Request;
 use record_book::opening::Opened;
-use record_book::seat::{Receipt, Seat, SpentSeat};
-use run_history::front::{Front, OfHistory};
+use record_book::seat::Receipt;
+use run_history::front::Front;
 use std::alloc::AllocError;
 use std::io::Write;
 use std::sync::Wait;
-use system_lock::kernel::{AdmissionTo, EndedIn, Finished, FinishedIn, Kernel, NotOpened, Why};
+use system_lock::kernel::{AdmissionTo, EndedIn, Finished, FinishedIn, KernelOf, NotOpened, Why};
+use system_lock::run::Run;
+use system_lock::run_seat::RunSeat;
 
 /// Answers an opening by the one receipt that there is.
 fn put_first<W: Write, G: Gate>(
@@ -55,13 +56,7 @@ fn put_given_up<W: Write, G: Gate>(output: &mut Output<W, G>, refusal: Refusal) 
 }
 
 /// Takes up the first request of a session. A process that is opened is noted at once.
-fn take_opening<
-    Rt: Wait,
-    W: Write,
-    G: Gate,
-    L: Ledgers + OfHistory,
-    K: Kernel<Seat<L>, SpentSeat<L>, Front<L>>,
->(
+fn take_opening<Rt: Wait, W: Write, G: Gate, L: Run, K: KernelOf<L>>(
     rt: &Rt,
     note: &Note,
     output: &mut Output<W, G>,
@@ -110,7 +105,7 @@ fn goes_on(outcome: &Outcome) -> bool
 
 /// What became of a session whose process has ended in the call that it waited in. All answers so far have been written. Where memory ran
 /// out or the run was full, that is answered.
-fn end_given_up<W: Write, G: Gate, L: Ledgers>(
+fn end_given_up<W: Write, G: Gate, L: Run>(
     output: &mut Output<W, G>,
     ended: EndedIn<L>,
 ) -> TurnOf<L>
@@ -136,13 +131,13 @@ fn end_given_up<W: Write, G: Gate, L: Ledgers>(
 }
 
 /// Waits until a call goes on. All answers so far have been written.
-fn finish_sent<
-    Rt: Wait,
-    W: Write,
-    G: Gate,
-    L: Ledgers + OfHistory,
-    K: Kernel<Seat<L>, SpentSeat<L>, Front<L>>,
->(rt: &Rt, output: &Output<W, G>, kernel: &K, front: &mut Front<L>, seat: Seat<L>) -> FinishedIn<L>
+fn finish_sent<Rt: Wait, W: Write, G: Gate, L: Run, K: KernelOf<L>>(
+    rt: &Rt,
+    output: &Output<W, G>,
+    kernel: &K,
+    front: &mut Front<L>,
+    seat: RunSeat<L>,
+) -> FinishedIn<L>
     requires { output.now.unsent ≡ [] }
     ensures finishes { FinishesBy seat result }
     ensures ended { Since front.new (λ h. SaysEnded (K.says h).ended seat result) }
@@ -153,13 +148,13 @@ fn finish_sent<
 }
 
 /// Writes all answers, waits until a call goes on, and answers what came of that.
-pub(crate) fn wait_once<
-    Rt: Wait,
-    W: Write,
-    G: Gate,
-    L: Ledgers + OfHistory,
-    K: Kernel<Seat<L>, SpentSeat<L>, Front<L>>,
->(rt: &Rt, output: &mut Output<W, G>, kernel: &K, front: &mut Front<L>, seat: Seat<L>) -> TurnOf<L>
+pub(crate) fn wait_once<Rt: Wait, W: Write, G: Gate, L: Run, K: KernelOf<L>>(
+    rt: &Rt,
+    output: &mut Output<W, G>,
+    kernel: &K,
+    front: &mut Front<L>,
+    seat: RunSeat<L>,
+) -> TurnOf<L>
     ensures waits { WaitsOnce seat output.old output.new result }
     ensures said { Since front.new (λ h. TurnSaid (K.says h) result) }
     ensures refusals { Since front.new (λ h. WaitSays (RefusalSaid (K.says h)) seat output.old output.new) }
@@ -182,18 +177,12 @@ pub(crate) fn wait_once<
 }
 
 /// Takes up a call of the session's process. It waits for no other process.
-fn take_call<
-    Rt: Wait,
-    W: Write,
-    G: Gate,
-    L: Ledgers + OfHistory,
-    K: Kernel<Seat<L>, SpentSeat<L>, Front<L>>,
->(
+fn take_call<Rt: Wait, W: Write, G: Gate, L: Run, K: KernelOf<L>>(
     rt: &Rt,
     output: &mut Output<W, G>,
     kernel: &K,
     front: &mut Front<L>,
-    seat: Seat<L>,
+    seat: RunSeat<L>,
     call: Call,
 ) -> TurnOf<L>
     ensures takes { TakesUp (stage.Ready seat) (request.Call call) output.old output.new result }
@@ -223,13 +212,7 @@ fn take_call<
 }
 
 /// Takes up a request at this stage of a session.
-fn take_up<
-    Rt: Wait,
-    W: Write,
-    G: Gate,
-    L: Ledgers + OfHistory,
-    K: Kernel<Seat<L>, SpentSeat<L>, Front<L>>,
->(
+fn take_up<Rt: Wait, W: Write, G: Gate, L: Run, K: KernelOf<L>>(
     rt: &Rt,
     note: &Note,
     output: &mut Output<W, G>,
@@ -267,13 +250,7 @@ fn take_up<
 }
 
 /// Takes up a request at this stage of a session. What was gathered is written first, if it is much.
-pub(crate) fn take_next<
-    Rt: Wait,
-    W: Write,
-    G: Gate,
-    L: Ledgers + OfHistory,
-    K: Kernel<Seat<L>, SpentSeat<L>, Front<L>>,
->(
+pub(crate) fn take_next<Rt: Wait, W: Write, G: Gate, L: Run, K: KernelOf<L>>(
     rt: &Rt,
     note: &Note,
     output: &mut Output<W, G>,

@@ -4,19 +4,20 @@ ghost use Rattle.std.specs.Prelude.{◌≡◌, ⊤, IfErr};
 ghost use Rattle.run_history.specs.Fronts.{Grows, Since};
 ghost use Rattle.system_lock.specs.Kernel.{FinishesBy, HangsUpBy, AsksForASeat, OpensAs, SaysEnded, itself};
 
-use byte_ledger::ledgers::Ledgers;
 use byte_ledger::tallies::Sums;
 use call_types::call::Call;
 use call_types::refusal::Refusal;
 use call_types::request::Request;
-use record_book::opening::OpenedIn;
-use record_book::seat::{Receipt, Seat, SpentSeat};
+use record_book::seat::Receipt;
+use run_history::front::Front;
 use std::sync::Wait;
 use system_lock::doors::Marked;
 use system_lock::kernel::{
-    AdmissionTo, AsFront, Ended, EndedIn, Finished, FinishedIn, Kernel, NotOpenedIn, Why,
+    AdmissionTo, Ended, EndedIn, Finished, FinishedIn, Kernel, KernelOf, NotOpenedIn, OpenedIn, Why,
 };
-use system_lock::one_book::OneBook;
+use system_lock::one_book::{OneBook, Unlimited};
+use system_lock::run::Run;
+use system_lock::run_seat::{RunSeat, SpentRunSeat};
 
 /// What it does not know.
 #[derive(Clone, Copy, Debug, PartialEq, Eq)]
@@ -30,19 +31,19 @@ pub(crate) enum Forgets {
 
 /// A book for one thread, which may forget the seats that it gave.
 #[derive(Drop)]
-pub(crate) struct Stranger<L: Ledgers> {
+pub(crate) struct Stranger<L: Run> {
     book: OneBook<L>,
     forgets: Forgets,
 }
 
-impl<L: Ledgers> Stranger<L> {
+impl<L: Run> Stranger<L> {
     /// A kernel of this book that forgets so much.
     pub(crate) fn new(book: OneBook<L>, forgets: Forgets) -> Self {
         Stranger { book, forgets }
     }
 
     /// Leave to open one process.
-    pub(crate) fn admit(&self) -> AdmissionTo<L> {
+    pub(crate) fn admit(&self) -> AdmissionTo<Unlimited<L>> {
         self.book.admit()
     }
 
@@ -53,17 +54,18 @@ impl<L: Ledgers> Stranger<L> {
 }
 
 /// A seat that is not known.
-fn foreign<L: Ledgers>(seat: Seat<L>) -> EndedIn<L>
+fn foreign<L: Run>(seat: RunSeat<L>) -> EndedIn<L>
     ensures seat { result.seat ≡ seat }
     ensures why { result.why ≡ Why.Foreign }
 {
     Ended {
-        seat: SpentSeat::of(seat),
+        seat: SpentRunSeat::of(seat),
         why: Why::Foreign,
     }
 }
 
-impl<L: Ledgers, F: AsFront> Kernel<Seat<L>, SpentSeat<L>, F> for Stranger<L> {
+impl<L: Run> Kernel<RunSeat<Unlimited<L>>, SpentRunSeat<Unlimited<L>>, Front<Unlimited<L>>>
+    for Stranger<L> {
     ghost use Rattle.std.specs.Prelude.{⊤};
     ghost use Rattle.system_lock.specs.Kernel.{anything};
 
@@ -74,14 +76,14 @@ impl<L: Ledgers, F: AsFront> Kernel<Seat<L>, SpentSeat<L>, F> for Stranger<L> {
     fn open<R: Wait>(
         &self,
         rt: &R,
-        front: &mut F,
-        admission: AdmissionTo<L>,
+        front: &mut Front<Unlimited<L>>,
+        admission: AdmissionTo<Unlimited<L>>,
         request: Request,
-    ) -> Result<OpenedIn<L>, NotOpenedIn<L>>
+    ) -> Result<OpenedIn<Unlimited<L>>, NotOpenedIn<Unlimited<L>>>
         requires { AsksForASeat request }
         ensures opens { OpensAs itself itself request result }
-        ensures grows { Grows (F.as_front front.old) (F.as_front front.new) }
-        ensures refused { Since (F.as_front front.new) (λ h. IfErr result (λ _. ⊤)) }
+        ensures grows { Grows front.old front.new }
+        ensures refused { Since front.new (λ h. IfErr result (λ _. ⊤)) }
     {
         self.book.open(rt, front, admission, request)
     }
@@ -89,17 +91,22 @@ impl<L: Ledgers, F: AsFront> Kernel<Seat<L>, SpentSeat<L>, F> for Stranger<L> {
     fn call<R: Wait>(
         &self,
         rt: &R,
-        front: &mut F,
-        seat: &mut Seat<L>,
+        front: &mut Front<Unlimited<L>>,
+        seat: &mut RunSeat<Unlimited<L>>,
         call: Call,
     ) -> Result<Receipt, Refusal> {
         self.book.call(rt, front, seat, call)
     }
 
-    fn finish<R: Wait>(&self, rt: &R, front: &mut F, seat: Seat<L>) -> FinishedIn<L>
+    fn finish<R: Wait>(
+        &self,
+        rt: &R,
+        front: &mut Front<Unlimited<L>>,
+        seat: RunSeat<Unlimited<L>>,
+    ) -> FinishedIn<Unlimited<L>>
         ensures finishes { FinishesBy seat result }
-        ensures grows { Grows (F.as_front front.old) (F.as_front front.new) }
-        ensures ended { Since (F.as_front front.new) (λ h. SaysEnded (λ _ _. ⊤) seat result) }
+        ensures grows { Grows front.old front.new }
+        ensures ended { Since front.new (λ h. SaysEnded (λ _ _. ⊤) seat result) }
     {
         match self.forgets {
             Forgets::WhoWaits => Finished::Ended(foreign(seat)),
@@ -107,10 +114,15 @@ impl<L: Ledgers, F: AsFront> Kernel<Seat<L>, SpentSeat<L>, F> for Stranger<L> {
         }
     }
 
-    fn hang_up<R: Wait>(&self, rt: &R, front: &mut F, seat: Seat<L>) -> EndedIn<L>
+    fn hang_up<R: Wait>(
+        &self,
+        rt: &R,
+        front: &mut Front<Unlimited<L>>,
+        seat: RunSeat<Unlimited<L>>,
+    ) -> EndedIn<Unlimited<L>>
         ensures hangs_up { HangsUpBy seat result }
-        ensures grows { Grows (F.as_front front.old) (F.as_front front.new) }
-        ensures ended { Since (F.as_front front.new) (λ h. ⊤) }
+        ensures grows { Grows front.old front.new }
+        ensures ended { Since front.new (λ h. ⊤) }
     {
         match self.forgets {
             Forgets::All => foreign(seat),
@@ -122,3 +134,5 @@ impl<L: Ledgers, F: AsFront> Kernel<Seat<L>, SpentSeat<L>, F> for Stranger<L> {
         Marked::needless(process)
     }
 }
+
+impl<L: Run> KernelOf<Unlimited<L>> for Stranger<L> {}

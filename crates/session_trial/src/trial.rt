@@ -6,14 +6,13 @@ use crate::job::Job;
 use crate::shown::{put_log, put_number, put_word, put_written};
 use crate::stranger::{Forgets, Stranger};
 use crate::trial_fault::TrialFault;
-use byte_ledger::ledgers::{Blanks, Ledgers};
+use byte_ledger::ledgers::Blanks;
 use byte_ledger::tallies::Sums;
 use call_types::act::ScriptAct;
 use call_types::limits::Limits;
 use logged_streams::reader::LoggedReader;
 use record_book::book::Book;
-use record_book::seat::SpentSeat;
-use run_history::front::{Begun, OfHistory};
+use run_history::front::Begun;
 use script_text::lines::{write_record, write_totals};
 use session_core::end::End;
 use session_core::gate::OpenGate;
@@ -24,7 +23,9 @@ use std::alloc::{AllocError, Global};
 use std::sync::{Arc, Wait};
 use std::thread::Threads;
 use system_lock::kernel::AdmissionTo;
-use system_lock::one_book::OneBook;
+use system_lock::one_book::{OneBook, Unlimited};
+use system_lock::run::Run;
+use system_lock::run_seat::SpentRunSeat;
 
 /// Appends the line of an end.
 fn put_end(out: &mut Vec<u8>, end: End) -> Result<(), AllocError> {
@@ -42,9 +43,9 @@ fn put_end(out: &mut Vec<u8>, end: End) -> Result<(), AllocError> {
 }
 
 /// Appends the lines of a seat's receipts.
-fn put_seat<L: Ledgers>(
+fn put_seat<L: Run>(
     out: &mut Vec<u8>,
-    seat: &Result<SpentSeat<L>, AdmissionTo<L>>,
+    seat: &Result<SpentRunSeat<L>, AdmissionTo<L>>,
 ) -> Result<(), AllocError> {
     match seat {
         Ok(seat) => {
@@ -69,7 +70,7 @@ fn put_reads(
 }
 
 /// Appends the lines of a session that is over.
-fn put_served<L: Ledgers>(
+fn put_served<L: Run>(
     out: &mut Vec<u8>,
     served: &Served<MemoryReader, MemoryWriter, L>,
 ) -> Result<(), AllocError> {
@@ -83,7 +84,7 @@ fn put_served<L: Ledgers>(
 }
 
 /// The lines of a session that is over, and of what its book counts.
-fn lines_of<L: Ledgers>(
+fn lines_of<L: Run>(
     alloc: Global,
     served: &Served<MemoryReader, MemoryWriter, L>,
     counts: Sums,
@@ -100,7 +101,7 @@ fn lines_of<L: Ledgers>(
 }
 
 /// A kernel of a new book, counted by these ledgers, that forgets so much and runs these acts when a call first waits.
-fn kernel_of<L: Ledgers>(
+fn kernel_of<L: Run>(
     alloc: Global,
     limits: Limits,
     forgets: Forgets,
@@ -110,14 +111,14 @@ fn kernel_of<L: Ledgers>(
     requires { blanks ≡ L.names }
 {
     // A match, since `?` would move the book three times more.
-    match Book::<L>::new(alloc, limits, blanks) {
+    match Book::<Unlimited<L>>::new(alloc, limits, blanks) {
         Ok(book) => Ok(Stranger::new(OneBook::new(alloc, book, acts), forgets)),
         Err(error) => Err(error),
     }
 }
 
 /// Such a kernel, which can be shared.
-fn shared_kernel<L: Ledgers + Send + Sync + 'static>(
+fn shared_kernel<L: Run + Send + Sync + 'static>(
     alloc: Global,
     limits: Limits,
     forgets: Forgets,
@@ -135,7 +136,7 @@ fn shared_kernel<L: Ledgers + Send + Sync + 'static>(
 /// The lines of what comes of a session, counted by these ledgers.
 pub(crate) fn tried<
     Rt: Threads + Wait + Copy + Drop + Send + Sync + 'static,
-    L: Ledgers + OfHistory + Send + Sync + 'static,
+    L: Run + Send + Sync + 'static,
 >(
     rt: Rt,
     alloc: Global,
@@ -152,7 +153,7 @@ pub(crate) fn tried<
     let reader = MemoryReader::new(input, job.reads);
     let writer = MemoryWriter::new(alloc, job.writes);
     let admission = kernel.admit();
-    let (_history, front) = begun.named::<L>();
+    let (_history, front) = begun.named::<Unlimited<L>>();
     let mut threads = SystemThreads::new();
     let (served, _known) = serve(
         rt,

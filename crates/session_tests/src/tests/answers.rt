@@ -3,14 +3,13 @@
 ghost use Rattle.std.specs.Prelude.{◌≡◌, [], IfOk, Some};
 ghost use Rattle.rtrb.specs.Ring.{received};
 
-use byte_ledger::ledgers::{Blanks, Ledgers};
+use byte_ledger::ledgers::Blanks;
 use call_types::call::Call;
 use call_types::limits::Limits;
 use call_types::request::Request;
 use record_book::book::Book;
-use record_book::seat::{Seat, SpentSeat};
 use rtrb::{Consumer, Producer, RingBuffer};
-use run_history::front::{Begun, Front, OfHistory};
+use run_history::front::{Begun, Front};
 use session_core::answer::{Answered, AnsweredSeat, answer};
 use session_core::end::End;
 use session_core::gate::OpenGate;
@@ -20,9 +19,10 @@ use std::alloc::{AllocError, Global};
 use std::marker::Brand;
 use std::sync::Wait;
 use std::test::Fail;
-use system_lock::kernel::{AdmissionTo, Kernel};
+use system_lock::kernel::{AdmissionTo, KernelOf};
 use system_lock::lock::SystemLock;
-use system_lock::one_book::OneBook;
+use system_lock::one_book::{OneBook, Unlimited};
+use system_lock::run::{NewRun, Run};
 
 /// How many requests the ring has room for.
 const ROOM: usize = 16;
@@ -39,7 +39,7 @@ enum Held {
 type CameOf = (Held, usize, Option<End>);
 
 /// The same of what was answered.
-fn came_of<L: Ledgers>(answered: Answered<MemoryWriter, L>) -> CameOf {
+fn came_of<L: Run>(answered: Answered<MemoryWriter, L>) -> CameOf {
     let held = match answered.seat {
         AnsweredSeat::None(_) => Held::Admission,
         AnsweredSeat::Live(_) => Held::Live,
@@ -74,7 +74,7 @@ fn ring_of(
 }
 
 /// What comes of the requests that a ring holds, where no more is read.
-fn answered<Rt: Wait, L: Ledgers + OfHistory, K: Kernel<Seat<L>, SpentSeat<L>, Front<L>>>(
+fn answered<Rt: Wait, L: Run, K: KernelOf<L>>(
     rt: &Rt,
     alloc: Global,
     kernel: &K,
@@ -110,35 +110,27 @@ fn join_and_forks(alloc: Global, forks: u32) -> Result<Vec<Request>, AllocError>
 }
 
 /// A run without records, under a lock.
-fn lock_of<L: Ledgers + OfHistory>(
-    alloc: Global,
-    limits: Limits,
-    blanks: Blanks,
-    begun: Begun,
-) -> Result<SystemLock<L>, AllocError>
-    requires ledgers { blanks ≡ L.names }
-    requires history { begun.seen.book ≡ L.book }
+fn lock_of<L: Run>(alloc: Global, limits: Limits, run: NewRun) -> Result<SystemLock<L>, AllocError>
+    requires named { run ≡ record { names = L.names; book = L.book } }
     requires limits { L.limits ≡ Some limits }
 {
-    let (kernel, _trace) = SystemLock::new(alloc, limits, blanks, begun)?;
+    let (kernel, _trace) = SystemLock::new(alloc, limits, run)?;
     Ok(kernel)
 }
 
 /// What comes of a join and so many forks, under a lock.
-fn forks_answered<Rt: Wait, L: Ledgers + OfHistory>(
+fn forks_answered<Rt: Wait, L: Run>(
     rt: &Rt,
     alloc: Global,
     limits: Limits,
-    blanks: Blanks,
-    begun: Begun,
+    run: NewRun,
     forks: u32,
 ) -> Result<CameOf, Fail>
-    requires ledgers { blanks ≡ L.names }
-    requires history { begun.seen.book ≡ L.book }
+    requires named { run ≡ record { names = L.names; book = L.book } }
     requires limits { L.limits ≡ Some limits }
 {
     let (_producer, ring) = ring_of(alloc, join_and_forks(alloc, forks)?)?;
-    let kernel = lock_of::<L>(alloc, limits, blanks, begun)?;
+    let kernel = lock_of::<L>(alloc, limits, run)?;
     let front = kernel.front(rt);
     Ok(answered(rt, alloc, &kernel, front, kernel.admit(), ring))
 }
@@ -146,20 +138,13 @@ fn forks_answered<Rt: Wait, L: Ledgers + OfHistory>(
 #[test]
 fn all_that_a_ring_holds_is_answered(rt: HostRuntime) -> Result<(), Fail> {
     let limits = Limits::new(100, 1024)?;
-    let came = forks_answered::<HostRuntime, Brand>(
-        &rt,
-        rt.alloc(),
-        limits,
-        Blanks::new(),
-        Begun::new(),
-        15,
-    )?;
+    let came = forks_answered::<HostRuntime, Brand>(&rt, rt.alloc(), limits, NewRun::new(), 15)?;
     assert!(rt; came == (Held::Live, 16, None));
     Ok(())
 }
 
 /// What comes of these requests, in a book of one thread that gives up a call that would wait.
-fn requests_answered<Rt: Wait, L: Ledgers + OfHistory>(
+fn requests_answered<Rt: Wait, L: Run>(
     rt: &Rt,
     alloc: Global,
     limits: Limits,
@@ -172,9 +157,9 @@ fn requests_answered<Rt: Wait, L: Ledgers + OfHistory>(
     requires limits { L.limits ≡ Some limits }
 {
     let (_producer, ring) = ring_of(alloc, requests)?;
-    let book = Book::<L>::new(alloc, limits, blanks)?;
-    let kernel = OneBook::new(alloc, book, Vec::new(alloc));
-    let (_history, front) = begun.named::<L>();
+    let book = Book::<Unlimited<L>>::new(alloc, limits, blanks)?;
+    let kernel = OneBook::<L>::new(alloc, book, Vec::new(alloc));
+    let (_history, front) = begun.named::<Unlimited<L>>();
     Ok(answered(rt, alloc, &kernel, front, kernel.admit(), ring))
 }
 

@@ -2,9 +2,7 @@
 
 ghost use Rattle.std.specs.Prelude.{◌≡◌, Some};
 
-use byte_ledger::ledgers::{Blanks, Ledgers};
 use call_types::limits::Limits;
-use run_history::front::{Begun, OfHistory};
 use session_core::end::End;
 use session_core::gate::OpenGate;
 use session_core::memory::{Manner, MemoryReader, MemoryWriter};
@@ -16,6 +14,7 @@ use std::sync::{Arc, Wait};
 use std::test::Fail;
 use std::thread::Threads;
 use system_lock::lock::SystemLock;
+use system_lock::run::{NewRun, Run};
 
 /// A starter that starts nothing.
 #[derive(Drop)]
@@ -48,7 +47,7 @@ impl Starter for NoThreads {
 type CameTo = (End, bool, bool, usize, usize);
 
 /// The same of a session that is over.
-fn came_to<L: Ledgers>(served: Served<MemoryReader, MemoryWriter, L>) -> CameTo {
+fn came_to<L: Run>(served: Served<MemoryReader, MemoryWriter, L>) -> CameTo {
     (
         served.end,
         served.seat.is_ok(),
@@ -62,17 +61,9 @@ fn came_to<L: Ledgers>(served: Served<MemoryReader, MemoryWriter, L>) -> CameTo 
 fn served_by<
     Rt: Threads + Wait + Copy + Drop + Send + Sync + 'static,
     T: Starter,
-    L: Ledgers + OfHistory + Send + Sync + 'static,
->(
-    rt: Rt,
-    alloc: Global,
-    starter: &mut T,
-    limits: Limits,
-    blanks: Blanks,
-    begun: Begun,
-) -> Result<CameTo, AllocError>
-    requires ledgers { blanks ≡ L.names }
-    requires history { begun.seen.book ≡ L.book }
+    L: Run + Send + Sync + 'static,
+>(rt: Rt, alloc: Global, starter: &mut T, limits: Limits, run: NewRun) -> Result<CameTo, AllocError>
+    requires named { run ≡ record { names = L.names; book = L.book } }
     requires limits { L.limits ≡ Some limits }
 {
     let manner = Manner {
@@ -84,7 +75,7 @@ fn served_by<
     let join = vec![in alloc; 0u8, 0, 0, 1, 1]?;
     let reader = MemoryReader::new(join, manner);
     let writer = MemoryWriter::new(alloc, manner);
-    let (kernel, _trace) = SystemLock::<L>::new(alloc, limits, blanks, begun)?;
+    let (kernel, _trace) = SystemLock::<L>::new(alloc, limits, run)?;
     let kernel = Arc::new(alloc, kernel)?;
     let admission = kernel.admit();
     let front = kernel.front(&rt);
@@ -103,8 +94,7 @@ fn session_without_a_thread_does_nothing(rt: HostRuntime) -> Result<(), Fail> {
         rt.alloc(),
         &mut starter,
         limits,
-        Blanks::new(),
-        Begun::new(),
+        NewRun::new(),
     )?;
     assert!(rt; came == (End::NoThread, false, false, 0, 0));
     assert!(rt; starter.failures == 1);
@@ -120,8 +110,7 @@ fn session_with_a_thread_counts_no_failure(rt: HostRuntime) -> Result<(), Fail> 
         rt.alloc(),
         &mut starter,
         limits,
-        Blanks::new(),
-        Begun::new(),
+        NewRun::new(),
     )?;
     assert!(rt; came == (End::Closed, true, true, 1, 22));
     Ok(())

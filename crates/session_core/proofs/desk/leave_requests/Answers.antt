@@ -9,15 +9,15 @@ use Rattle.session_core.proofs.desk.leave_requests.Goals as goal
 pub returns-then-count-eq0-clause-ends : goal.returns-then-count-eq0-clause-ends
 returns-then-count-eq0-clause-ends g c h p base is =
     laws.ends_after_all (g.K.Kernel.says h) base (received c.loop.consumer) (known_items c.loop.consumer)
-    (received c.args.consumer.now ++ known_items c.args.consumer.now) c.args.why c.in-Ready.stage c.loop.output c.leave.new.output c.leave.result c.loop.invariant.same
-    (c.loop.invariant.left ∙ c.if-count-eq0.true) (subst (Stands (g.K.Kernel.says h) base (received c.loop.consumer) c.loop.output) c.in-Ready.is (c.loop.invariant.stands h (c.leave.ensures.grows h p) base is))
-    (c.leave.ensures.left h p) (laws.reading_said (g.K.Kernel.says h) c.in-Ready.stage c.args.why c.requires.reading)
+    (received c.args.consumer.now ++ known_items c.args.consumer.now) c.args.why c.in-Ready.stage c.loop.output c.leave_and_shut.new.output c.leave_and_shut.result c.loop.invariant.same
+    (c.loop.invariant.left ∙ c.if-count-eq0.true) (subst (Stands (g.K.Kernel.says h) base (received c.loop.consumer) c.loop.output) c.in-Ready.is (c.loop.invariant.stands h (c.leave_and_shut.ensures.grows h p) base is))
+    (c.leave_and_shut.ensures.left h p) (laws.reading_said (g.K.Kernel.says h) c.in-Ready.stage c.args.why c.requires.reading)
 
 pub returns-in-Lost-clause-ends : goal.returns-in-Lost-clause-ends
 returns-in-Lost-clause-ends g c h p base is =
     laws.ends_given_up (g.K.Kernel.says h) base (received c.loop.consumer) (known_items c.loop.consumer)
-    (received c.args.consumer.now ++ known_items c.args.consumer.now) c.args.why c.in-Lost.seat c.loop.output c.leave-in-Lost.new.output c.leave-in-Lost.result c.loop.invariant.same c.requires.reading
-    (subst (Stands (g.K.Kernel.says h) base (received c.loop.consumer) c.loop.output) c.in-Lost.is (c.loop.invariant.stands h (c.leave-in-Lost.ensures.grows h p) base is)) (c.leave-in-Lost.ensures.left h p)
+    (received c.args.consumer.now ++ known_items c.args.consumer.now) c.args.why c.in-Lost.seat c.loop.output c.leave_and_shut-in-Lost.new.output c.leave_and_shut-in-Lost.result c.loop.invariant.same c.requires.reading
+    (subst (Stands (g.K.Kernel.says h) base (received c.loop.consumer) c.loop.output) c.in-Lost.is (c.loop.invariant.stands h (c.leave_and_shut-in-Lost.ensures.grows h p) base is)) (c.leave_and_shut-in-Lost.ensures.left h p)
 
 pub returns-in-Left-clause-ends : goal.returns-in-Left-clause-ends
 returns-in-Left-clause-ends g c h p base is =
@@ -26,10 +26,10 @@ returns-in-Left-clause-ends g c h p base is =
     (subst (Stands (g.K.Kernel.says h) base (received c.loop.consumer) c.loop.output) c.in-Left.is (c.loop.invariant.stands h p base is))
 
 pub returns-then-count-eq0-clause-shut : goal.returns-then-count-eq0-clause-shut
-returns-then-count-eq0-clause-shut g c first = c.leave.ensures.shut
+returns-then-count-eq0-clause-shut g c first = c.leave_and_shut.ensures.shut
 
 pub returns-in-Lost-clause-shut : goal.returns-in-Lost-clause-shut
-returns-in-Lost-clause-shut g c first = c.leave-in-Lost.ensures.shut
+returns-in-Lost-clause-shut g c first = c.leave_and_shut-in-Lost.ensures.shut
 
 pub returns-in-Left-clause-shut : goal.returns-in-Left-clause-shut
 returns-in-Left-clause-shut g c first = subst (ShutIfLeft g.W.Connection.was_shut c.loop.output) c.in-Left.is (c.loop.invariant.shut first)

@@ -3,7 +3,7 @@ use Rattle.std.specs.Prelude.{Some}
 use Rattle.session_tests.proofs.tests.answers.all_that_a_ring_holds_is_answered.Given as goal
 
 abbrev pub ghosts-forks_answered-L-Ledgers : goal.ghosts-forks_answered-L-Ledgers
-ghosts-forks_answered-L-Ledgers g a = record { names = a.blanks; limits = Some a.limits }
+ghosts-forks_answered-L-Ledgers g a = record { names = a.run.names; limits = Some a.limits }
 
 abbrev pub ghosts-forks_answered-L-OfHistory : goal.ghosts-forks_answered-L-OfHistory
-ghosts-forks_answered-L-OfHistory g a = record { book = a.begun.seen.book }
+ghosts-forks_answered-L-OfHistory g a = record { book = a.run.book }

@@ -3,7 +3,7 @@ use Rattle.std.specs.Prelude.{Some}
 use Rattle.session_tests.proofs.tests.starters.session_without_a_thread_does_nothing.Given as goal
 
 abbrev pub ghosts-served_by-L-Ledgers : goal.ghosts-served_by-L-Ledgers
-ghosts-served_by-L-Ledgers g a = record { names = a.blanks; limits = Some a.limits }
+ghosts-served_by-L-Ledgers g a = record { names = a.run.names; limits = Some a.limits }
 
 abbrev pub ghosts-served_by-L-OfHistory : goal.ghosts-served_by-L-OfHistory
-ghosts-served_by-L-OfHistory g a = record { book = a.begun.seen.book }
+ghosts-served_by-L-OfHistory g a = record { book = a.run.book }

@@ -1,4 +1,4 @@
-use Rattle.session_core.proofs.desk.leave.Goals as goal
+use Rattle.session_core.proofs.desk.leave_and_shut.Goals as goal
 
 pub returns-clause-left : goal.returns-clause-left
 returns-clause-left g c h p requests said over =
