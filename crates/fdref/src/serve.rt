@@ -7,7 +7,6 @@ ghost use Rattle.job_core.specs.Output.{WritesLine};
 ghost use Rattle.logged_streams.specs.Streams.{one_more};
 ghost use Rattle.job_core.specs.declared.job_end.JobEnd.TheVariants as ended;
 
-use byte_ledger::ledgers::{Blanks, Ledgers};
 use call_types::limits::Limits;
 use job_core::job_end::JobEnd;
 use job_core::output::write_lines;
@@ -15,7 +14,6 @@ use logged_streams::writer::LoggedWriter;
 use run_core::report::{Report, RunFault, Session};
 use run_core::sessions::run_sessions;
 use run_core::source::Source;
-use run_history::front::{Begun, OfHistory};
 use session_core::end::End;
 use session_core::gate::OpenGate;
 use session_core::starter::Starter;
@@ -25,6 +23,7 @@ use std::marker::Brand;
 use std::sync::Wait;
 use std::thread::Threads;
 use std::time::Clock;
+use system_lock::run::{NewRun, Run};
 use trace_writer::sink::Sink;
 use trace_writer::traced::TraceFault;
 
@@ -139,7 +138,7 @@ fn serve_with<
     S: Source + Send + 'static,
     K: Sink + Send + Drop + 'static,
     W: Write,
-    L: Ledgers + OfHistory + Send + Sync + 'static,
+    L: Run + Send + Sync + 'static,
     T: Starter + Send + Drop + 'static,
 >(
     rt: Rt,
@@ -148,15 +147,13 @@ fn serve_with<
     source: &mut S,
     sessions: usize,
     limits: Limits,
-    blanks: Blanks,
-    begun: Begun,
+    run: NewRun,
     sink: K,
     writer: &mut LoggedWriter<W>,
 ) -> Served<K>
     requires failures { S.failures source.old + 1 < 2 ^ 64 }
     requires accepted { S.accepted source.old + sessions < 2 ^ 64 }
-    requires ledgers { blanks ≡ L.names }
-    requires history { begun.seen.book ≡ L.book }
+    requires named { run ≡ record { names = L.names; book = L.book } }
     requires limits { L.limits ≡ Some limits }
     requires sound { K.is_sound sink ≡ true }
     requires few { K.failures sink + 1 < 2 ^ 64 }
@@ -165,7 +162,7 @@ fn serve_with<
     ensures unstarted { result.end ≡ ended.NoThread → one_more (T.failures starter.old) ≤ T.failures starter.new }
 {
     let ran = run_sessions::<Rt, S, OpenGate, L, K, T>(
-        rt, alloc, starter, source, sessions, limits, blanks, begun, OpenGate, sink,
+        rt, alloc, starter, source, sessions, limits, run, OpenGate, sink,
     );
     let report = match ran {
         Ok(report) => report,
@@ -216,8 +213,7 @@ pub fn serve_on<
         source,
         sessions,
         limits,
-        Blanks::new(),
-        Begun::new(),
+        NewRun::new(),
         sink,
         writer,
     )

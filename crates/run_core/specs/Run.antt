@@ -1,5 +1,5 @@
 -- What a run of sessions comes to (own).
-use Rattle.std.specs.Prelude.{◌≡◌, ℕ, ◌+◌, ◌<◌, ◌⊎◌, Bool, true, false, map, List, [], ◌∷◌, ◌++◌, Option, None, Some, length, sum, filter_map}
+use Rattle.std.specs.Prelude.{◌≡◌, ℕ, ◌+◌, ◌<◌, ◌⊎◌, Bool, true, false, map, List, [], ◌∷◌, ◌++◌, Option, None, Some, length, sum, filter_map, IfSome}
 use Rattle.std.specs.List.{AllZip}
 use Rattle.std.specs.Option.{option_map}
 use Rattle.posix_model.specs.Reserve.{IsLegalRun}
@@ -27,6 +27,7 @@ use Rattle.session_core.specs.declared.told.Told.{Told}
 use Rattle.session_core.specs.Refusals.{ServesUnder}
 use Rattle.session_core.specs.Said.{CutSaid, EndSaid}
 use Rattle.session_core.specs.Served.{SessionState}
+use Rattle.system_lock.specs.Owns.{OwnsUnder}
 use Rattle.system_lock.specs.Says.{IsEnded, said_under}
 use Rattle.logged_streams.specs.Streams.{LoggedReaderState, LoggedWriterState}
 use Rattle.request_pump.specs.Pushes.{PushState}
@@ -80,11 +81,13 @@ IsBlank contents = is_blank contents ≡ true
 
 -- a session was served under the lock of a run with these limits and this history: it did what is promised of any session; it ends as full
 -- or foreign, refuses a request, and leaves off in a call that waits only where that was due once the run had come so far: in a legal book
--- with these limits whose records are the first of this history
+-- with these limits whose records are the first of this history, those of its own receipts among them; and its seat counts just what the
+-- records of its receipts took and gave in this history
 pub record ServesInRun (limits : Option Limits) (h : List Record) (always : Bool) (from base : Option (List ℕ)) (s : SessionState) : Type 0 where
   pub serves : ServesUnder (said_under limits h) always from base s
   pub said : EndSaid (said_under limits h) s.seat s.end_is
   pub given_up : CutSaid (IsEnded limits h) s.seat s.answers s.end_is
+  pub owns : IfSome s.seat (OwnsUnder limits h)
 
 -- the same in each run with these limits whose history begins with these records
 pub record ServesSince (limits : Option Limits) (front : List Record) (always : Bool) (from base : Option (List ℕ)) (s : SessionState) : Type 0 where

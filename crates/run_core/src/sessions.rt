@@ -1,6 +1,6 @@
 //! The sessions of a run, each in a thread of its own.
 
-ghost use Rattle.std.specs.Prelude.{◌≡◌, ◌≤◌, ◌<◌, ◌+◌, ◌^◌, ◌++◌, ◌∷◌, [], ℕ, true, None, Some, map, length, vec_len, vec_capacity, IfOk, IfErr, OnErr, OnOk};
+ghost use Rattle.std.specs.Prelude.{◌≡◌, ◌≤◌, ◌<◌, ◌+◌, ◌^◌, ◌++◌, ◌∷◌, [], ℕ, true, None, Some, map, length, vec_len, vec_capacity, IfOk, IfErr, IfSome, OnErr, OnOk};
 ghost use Rattle.std.specs.Option.{option_map};
 ghost use Rattle.std.specs.Arc.{arc_value};
 ghost use Rattle.rtrb.specs.Ring.{received};
@@ -11,6 +11,7 @@ ghost use Rattle.run_core.specs.Receipts.{held_by};
 ghost use Rattle.run_core.specs.Run.{AreShut, IsRun, IsRunOf, IsBlank, IsProcessOf, FailsIfFewer, GivesConnections, ServesSince, CountsItsOwn, held_in, streams, with_seat};
 ghost use Rattle.run_core.specs.Proved.Joining.{HasEnded, IsJoined};
 ghost use Rattle.logged_streams.specs.Streams.{one_more};
+ghost use Rattle.system_lock.specs.Owns.{OwnsUnder};
 ghost use Rattle.session_core.specs.Served.{failures_after};
 ghost use Rattle.run_core.specs.Starters.{failures_by, failures_with, left_sessions};
 ghost use Rattle.run_core.specs.Proved.Starting.{failures_at, failures_for};
@@ -26,10 +27,9 @@ use crate::laws::runs_are_judged;
 use crate::report::{Left, Process, Report, RunFault, Session, Unreported};
 use crate::source::Source;
 use crate::tracing::{Done, Traces, start_trace};
-use byte_ledger::ledgers::{Blanks, Ledgers};
 use byte_ledger::tallies::Shares;
 use call_types::limits::Limits;
-use run_history::front::{Begun, Front, OfHistory};
+use run_history::front::Front;
 use session_core::connection::Connection;
 use session_core::gate::Gate;
 use session_core::serve::{Served, serve};
@@ -38,25 +38,24 @@ use std::alloc::{AllocError, Global};
 use std::io::{Read, Write};
 use std::snapshot::Snapshot;
 use std::sync::{Arc, Wait};
-use std::thread;
 use std::thread::{Promise, PromisedHandle, Threads};
 use std::time::Clock;
 use system_lock::lock::SystemLock;
-use system_lock::system::System;
+use system_lock::run::{NewRun, Run};
 use trace_ring::trace_ring::TraceEnd;
 use trace_writer::sink::Sink;
 
 /// What all sessions of a run share: the lock round its book, and the gate that is asked before an answer is written.
 #[derive(Drop)]
-struct Shared<G: Gate, L: Ledgers + OfHistory> {
+struct Common<G: Gate, L: Run> {
     lock: Arc<SystemLock<L>>,
     gate: Arc<G>,
 }
 
-impl<G: Gate, L: Ledgers + OfHistory> Shared<G, L> {
+impl<G: Gate, L: Run> Common<G, L> {
     /// The same, for one session.
     fn share(&self) -> Result<Self, AllocError> {
-        Ok(Shared {
+        Ok(Common {
             lock: Arc::try_clone(&self.lock)?,
             gate: Arc::try_clone(&self.gate)?,
         })
@@ -77,15 +76,14 @@ pub(crate) struct Serving<R: Read, W: Write, G: Gate, T: Starter> {
 
 /// A session that is over, what it knows of the run's history, and the starter of its thread.
 #[derive(Drop)]
-pub(crate) struct Over<R: Read, W: Write, L: Ledgers + OfHistory, T: Starter> {
+pub(crate) struct Over<R: Read, W: Write, L: Run, T: Starter> {
     served: Served<R, W, L>,
     known: Front<L>,
     starter: T,
 }
 
-impl<R: Read, W: Write + Connection, G: Gate, L: Ledgers + OfHistory, T: Starter> Promise<
-    Over<R, W, L, T>,
-> for Serving<R, W, G, T> {
+impl<R: Read, W: Write + Connection, G: Gate, L: Run, T: Starter> Promise<Over<R, W, L, T>>
+    for Serving<R, W, G, T> {
     ghost use Rattle.std.specs.Prelude.{◌≡◌};
     ghost use Rattle.session_core.specs.Served.{failures_after};
     ghost use Rattle.run_core.specs.Run.{ServesSince};
@@ -114,12 +112,22 @@ impl<R: Read, W: Write, G: Gate, T: Starter> Serving<R, W, G, T> {
 /// A session that goes on in its thread.
 type Running<R, W, G, L, T> = PromisedHandle<Over<R, W, L, T>, Serving<R, W, G, T>>;
 
+/// Learns what the seat of a session knows of the run's history, if it has one.
+fn learn_from<R: Read, W: Write, L: Run>(known: &mut Front<L>, served: &Served<R, W, L>)
+    ensures grows { Grows known.old known.new }
+    ensures owns { Since known.new (λ h. IfSome served.now.seat (OwnsUnder L.limits h)) }
+{
+    if let Ok(seat) = &served.seat {
+        seat.tell(known);
+    }
+}
+
 /// Serves a connection, and ends it.
 fn serve_connection<
     Rt: Threads + Wait + Copy + Drop + Send + Sync + 'static,
     S: Source + Send + 'static,
     G: Gate + Send + Sync + 'static,
-    L: Ledgers + OfHistory + Send + Sync + 'static,
+    L: Run + Send + Sync + 'static,
     T: Starter + Drop,
 >(
     rt: Rt,
@@ -138,7 +146,7 @@ fn serve_connection<
     let mut starter = starter;
     let admission = lock.admit();
     let front = lock.front(&rt);
-    let (served, known) = serve(
+    let (served, mut known) = serve(
         rt,
         alloc,
         &mut starter,
@@ -150,6 +158,7 @@ fn serve_connection<
         session,
         gate,
     );
+    learn_from(&mut known, &served);
     Over {
         served,
         known,
@@ -162,13 +171,13 @@ fn start_session<
     Rt: Threads + Wait + Copy + Drop + Send + Sync + 'static,
     S: Source + Send + 'static,
     G: Gate + Send + Sync + 'static,
-    L: Ledgers + OfHistory + Send + Sync + 'static,
+    L: Run + Send + Sync + 'static,
     T: Starter + Send + Drop + 'static,
 >(
     rt: Rt,
     alloc: Global,
     starter: &mut T,
-    shared: Shared<G, L>,
+    shared: Common<G, L>,
     reader: S::Reader,
     writer: S::Writer,
     session: u64,
@@ -178,7 +187,7 @@ fn start_session<
     ensures started { OnOk result (T.failures starter.new ≡ T.failures starter.old) }
     ensures refused { OnErr result (T.failures starter.new ≡ one_more (T.failures starter.old)) }
 {
-    let Shared { lock, gate } = shared;
+    let Common { lock, gate } = shared;
     let own = starter.another();
     let promise = Serving::of(&reader, &writer, &gate, &own);
     let serving = move || {
@@ -223,13 +232,13 @@ fn next_session<
     Rt: Threads + Wait + Copy + Drop + Send + Sync + 'static,
     S: Source + Send + 'static,
     G: Gate + Send + Sync + 'static,
-    L: Ledgers + OfHistory + Send + Sync + 'static,
+    L: Run + Send + Sync + 'static,
     T: Starter + Send + Drop + 'static,
 >(
     rt: Rt,
     alloc: Global,
     starter: &mut T,
-    shared: &Shared<G, L>,
+    shared: &Common<G, L>,
     source: &mut S,
     session: u64,
 ) -> Result<Running<S::Reader, S::Writer, G, L, T>, Shortage>
@@ -262,7 +271,7 @@ fn next_session<
 
 /// The sessions that were started, and what was wanting for a connection that was accepted after them, if there was one.
 #[derive(Drop)]
-struct Started<R: Read, W: Write + Connection, G: Gate, L: Ledgers + OfHistory, T: Starter> {
+struct Started<R: Read, W: Write + Connection, G: Gate, L: Run, T: Starter> {
     running: Vec<Running<R, W, G, L, T>>,
     want: Option<Want>,
 }
@@ -272,13 +281,13 @@ fn start_all<
     Rt: Threads + Wait + Copy + Drop + Send + Sync + 'static,
     S: Source + Send + 'static,
     G: Gate + Send + Sync + 'static,
-    L: Ledgers + OfHistory + Send + Sync + 'static,
+    L: Run + Send + Sync + 'static,
     T: Starter + Send + Drop + 'static,
 >(
     rt: Rt,
     alloc: Global,
     starter: &mut T,
-    shared: &Shared<G, L>,
+    shared: &Common<G, L>,
     source: &mut S,
     sessions: usize,
     room: Vec<Running<S::Reader, S::Writer, G, L, T>>,
@@ -320,13 +329,13 @@ fn start_all<
 
 /// The sessions of a run that is over, and the shares of their seats.
 #[derive(Drop)]
-struct Parted<R: Read, W: Write, L: Ledgers> {
+struct Parted<R: Read, W: Write, L: Run> {
     sessions: Vec<Session<R, W>>,
     shares: Vec<Shares<L>>,
 }
 
 /// A session without its seat, and the shares of the seat.
-fn part<R: Read + Drop, W: Write + Drop, L: Ledgers>(
+fn part<R: Read + Drop, W: Write + Drop, L: Run>(
     served: Served<R, W, L>,
 ) -> (Session<R, W>, Option<Shares<L>>)
     ensures process { IsProcessOf served.seat result.0.process }
@@ -368,7 +377,7 @@ fn join_all<
     R: Read + Drop,
     W: Write + Connection + Drop,
     G: Gate,
-    L: Ledgers + OfHistory,
+    L: Run,
     T: Starter + Drop,
 >(
     rt: &Rt,
@@ -411,19 +420,16 @@ fn join_all<
 
 /// Room for all sessions of a run: while they go on, and when they are over.
 #[derive(Drop)]
-struct Rooms<R: Read, W: Write + Connection, G: Gate, L: Ledgers + OfHistory, T: Starter> {
+struct Rooms<R: Read, W: Write + Connection, G: Gate, L: Run, T: Starter> {
     running: Vec<Running<R, W, G, L, T>>,
     ends: Parted<R, W, L>,
 }
 
 /// Makes room for so many sessions.
-fn rooms_for<
-    R: Read + Drop,
-    W: Write + Connection + Drop,
-    G: Gate,
-    L: Ledgers + OfHistory,
-    T: Starter + Drop,
->(alloc: Global, sessions: usize) -> Result<Rooms<R, W, G, L, T>, AllocError>
+fn rooms_for<R: Read + Drop, W: Write + Connection + Drop, G: Gate, L: Run, T: Starter + Drop>(
+    alloc: Global,
+    sessions: usize,
+) -> Result<Rooms<R, W, G, L, T>, AllocError>
     ensures running { IfOk result (λ rooms. (vec_len rooms.running ≡ 0) × (sessions ≤ vec_capacity rooms.running)) }
     ensures ends { IfOk result (λ rooms. (vec_len rooms.ends.sessions ≡ 0) × (sessions ≤ vec_capacity rooms.ends.sessions)) }
     ensures shares { IfOk result (λ rooms. (vec_len rooms.ends.shares ≡ 0) × (sessions ≤ vec_capacity rooms.ends.shares)) }
@@ -439,20 +445,18 @@ fn rooms_for<
 }
 
 /// What the sessions of a new run share, and the end of its ring that gives its records to the trace.
-fn shared_by<G: Gate, L: Ledgers + OfHistory>(
+fn shared_by<G: Gate, L: Run>(
     alloc: Global,
     limits: Limits,
-    blanks: Blanks,
-    begun: Begun,
+    run: NewRun,
     gate: G,
-) -> Result<(Shared<G, L>, TraceEnd), AllocError>
-    requires ledgers { blanks ≡ L.names }
-    requires history { begun.seen.book ≡ L.book }
+) -> Result<(Common<G, L>, TraceEnd), AllocError>
+    requires named { run ≡ record { names = L.names; book = L.book } }
     requires limits { L.limits ≡ Some limits }
     ensures { IfOk result (λ pair. received pair.1 ≡ []) }
 {
-    let (lock, end) = SystemLock::new(alloc, limits, blanks, begun)?;
-    let shared = Shared {
+    let (lock, end) = SystemLock::new(alloc, limits, run)?;
+    let shared = Common {
         lock: Arc::new(alloc, lock)?,
         gate: Arc::new(alloc, gate)?,
     };
@@ -462,29 +466,10 @@ fn shared_by<G: Gate, L: Ledgers + OfHistory>(
 /// Sessions that have ended, their run, which is closed, and what was wanting for a connection that was accepted after them, if there was
 /// one.
 #[derive(Drop)]
-struct Ended<R: Read, W: Write, L: Ledgers> {
+struct Ended<R: Read, W: Write, L: Run> {
     closed: Closed<L>,
     parted: Parted<R, W, L>,
     want: Option<Want>,
-}
-
-/// The same system, once it is seen that its book has all records of a front. It waits for ever where it has not: that does not happen,
-/// since only the system adds to the history.
-fn that_has_all<Rt: Wait, L: Ledgers + OfHistory>(
-    rt: &Rt,
-    system: System<L>,
-    front: &Front<L>,
-) -> System<L>
-    ensures same { result ≡ system }
-    ensures has { Grows front.now result.book_is.history }
-{
-    if system.front().covers(front) {
-        return system;
-    }
-    for _ in rt.forever() {
-        thread::yield_now();
-    }
-    unreachable!()
 }
 
 /// Accepts so many connections, serves each in a thread of its own, and closes the run when all have ended. No thread goes on then, and
@@ -493,13 +478,13 @@ fn serve_all<
     Rt: Threads + Wait + Copy + Drop + Send + Sync + 'static,
     S: Source + Send + 'static,
     G: Gate + Send + Sync + 'static,
-    L: Ledgers + OfHistory + Send + Sync + 'static,
+    L: Run + Send + Sync + 'static,
     T: Starter + Send + Drop + 'static,
 >(
     rt: Rt,
     alloc: Global,
     starter: &mut T,
-    shared: Shared<G, L>,
+    shared: Common<G, L>,
     source: &mut S,
     sessions: usize,
     rooms: Rooms<S::Reader, S::Writer, G, L, T>,
@@ -523,7 +508,8 @@ fn serve_all<
     let mut front = shared.lock.front(&rt);
     let parted = join_all(&rt, starter, &mut front, running, ends);
     let system = unshared(&rt, shared.lock).take();
-    let closed = close(that_has_all(&rt, system, &front).into_book());
+    system.has_all_of(&rt, &front);
+    let closed = close(system.into_book());
     Ended {
         closed,
         parted,
@@ -532,7 +518,7 @@ fn serve_all<
 }
 
 /// What a run left that gives no report for this.
-fn unreported<R: Read, W: Write, L: Ledgers, K: Sink>(
+fn unreported<R: Read, W: Write, L: Run, K: Sink>(
     fault: RunFault,
     closed: Closed<L>,
     ends: Vec<Session<R, W>>,
@@ -556,7 +542,7 @@ fn unreported<R: Read, W: Write, L: Ledgers, K: Sink>(
 
 /// Compares and gathers what sessions and their trace left.
 #[tactic(auto, using(crate::proofs::StarterLemmas::failures_wanted, crate::proofs::StarterLemmas::no_more_by))]
-fn report_of<R: Read + Drop, W: Write + Drop, L: Ledgers, K: Sink + Drop>(
+fn report_of<R: Read + Drop, W: Write + Drop, L: Run, K: Sink + Drop>(
     alloc: Global,
     ended: Ended<R, W, L>,
     done: Done<K>,
@@ -604,14 +590,14 @@ fn serve_traced<
     Rt: Threads + Wait + Clock + Copy + Drop + Send + Sync + 'static,
     S: Source + Send + 'static,
     G: Gate + Send + Sync + 'static,
-    L: Ledgers + OfHistory + Send + Sync + 'static,
+    L: Run + Send + Sync + 'static,
     K: Sink + Send + Drop + 'static,
     T: Starter + Send + Drop + 'static,
 >(
     rt: Rt,
     alloc: Global,
     starter: &mut T,
-    shared: Shared<G, L>,
+    shared: Common<G, L>,
     source: &mut S,
     sessions: usize,
     rooms: Rooms<S::Reader, S::Writer, G, L, T>,
@@ -658,7 +644,7 @@ pub fn run_sessions<
     Rt: Threads + Wait + Clock + Copy + Drop + Send + Sync + 'static,
     S: Source + Send + 'static,
     G: Gate + Send + Sync + 'static,
-    L: Ledgers + OfHistory + Send + Sync + 'static,
+    L: Run + Send + Sync + 'static,
     K: Sink + Send + Drop + 'static,
     T: Starter + Send + Drop + 'static,
 >(
@@ -668,15 +654,13 @@ pub fn run_sessions<
     source: &mut S,
     sessions: usize,
     limits: Limits,
-    blanks: Blanks,
-    begun: Begun,
+    run: NewRun,
     gate: G,
     sink: K,
 ) -> Result<Report<S::Reader, S::Writer, K>, Unreported<S::Reader, S::Writer, K, L>>
     requires failures { S.failures source.old + 1 < 2 ^ 64 }
     requires accepted { S.accepted source.old + sessions < 2 ^ 64 }
-    requires ledgers { blanks ≡ L.names }
-    requires history { begun.seen.book ≡ L.book }
+    requires named { run ≡ record { names = L.names; book = L.book } }
     requires limits { L.limits ≡ Some limits }
     requires sound { K.is_sound sink ≡ true }
     requires few { K.failures sink + 1 < 2 ^ 64 }
@@ -695,7 +679,7 @@ pub fn run_sessions<
     ensures spelled { IfOk result (λ report. report.traced.fault ≡ Some trace_fault.Unspellable → ⊥) }
 {
     let rooms = rooms_for(alloc, sessions)?;
-    let (shared, end) = shared_by::<G, L>(alloc, limits, blanks, begun, gate)?;
+    let (shared, end) = shared_by::<G, L>(alloc, limits, run, gate)?;
     match start_trace(rt, alloc, starter, end, limits, sink) {
         Ok(traces) => serve_traced(
             rt, alloc, starter, shared, source, sessions, rooms, limits, traces,

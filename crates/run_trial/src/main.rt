@@ -12,11 +12,9 @@ mod trial;
 mod trial_fault;
 mod waiting;
 
-use byte_ledger::ledgers::Blanks;
 use call_types::limits::{Limits, PIPE_CAPACITY};
 use logged_streams::stream_log::REFUSALS_MAX;
 use run_core::report::{Report, RunFault, Session};
-use run_history::front::Begun;
 use session_core::memory::{MemoryReader, MemoryWriter};
 use std::io;
 use std::io::ErrorKind;
@@ -25,6 +23,7 @@ use std::process::ExitCode;
 use std::sync::Wait;
 use std::thread::Threads;
 use std::time::Clock;
+use system_lock::run::{NewRun, Run};
 use trace_writer::memory::MemorySink;
 use trial::ran;
 use trial_fault::TrialFault;
@@ -89,7 +88,7 @@ fn run<Rt: Threads + Wait + Clock + Copy + Drop + Send + Sync + 'static>(
 ) -> Result<(), TrialFault> {
     let words = words_of(rt)?;
     let limits = limits_of(words.as_slice())?;
-    let report = ran::<Rt, Brand>(handle, rt.alloc(), limits, Blanks::new(), Begun::new())?;
+    let report = ran::<Rt, Brand>(handle, rt.alloc(), limits, NewRun::new())?;
     print_report(rt, &report).map_err(|_| TrialFault::CannotWrite)
 }
 

@@ -5,32 +5,29 @@ ghost use Rattle.std.specs.Prelude.{◌≡◌, Some};
 use crate::others_first::OthersFirst;
 use crate::trial_fault::TrialFault;
 use crate::waiting::{SESSIONS, Waiting};
-use byte_ledger::ledgers::{Blanks, Ledgers};
 use call_types::limits::Limits;
 use run_core::report::Report;
 use run_core::sessions::run_sessions;
-use run_history::front::{Begun, OfHistory};
 use session_core::memory::{MemoryReader, MemoryWriter};
 use session_core::starter::SystemThreads;
 use std::alloc::Global;
 use std::sync::Wait;
 use std::thread::Threads;
 use std::time::Clock;
+use system_lock::run::{NewRun, Run};
 use trace_writer::memory::{Manner, MemorySink};
 
 /// The report of the run, counted by these ledgers.
 pub(crate) fn ran<
     Rt: Threads + Wait + Clock + Copy + Drop + Send + Sync + 'static,
-    L: Ledgers + OfHistory + Send + Sync + 'static,
+    L: Run + Send + Sync + 'static,
 >(
     rt: Rt,
     alloc: Global,
     limits: Limits,
-    blanks: Blanks,
-    begun: Begun,
+    run: NewRun,
 ) -> Result<Report<MemoryReader, MemoryWriter, MemorySink>, TrialFault>
-    requires ledgers { blanks ≡ L.names }
-    requires history { begun.seen.book ≡ L.book }
+    requires named { run ≡ record { names = L.names; book = L.book } }
     requires limits { L.limits ≡ Some limits }
 {
     let mut source = Waiting::new(alloc)?;
@@ -41,8 +38,7 @@ pub(crate) fn ran<
         &mut source,
         SESSIONS,
         limits,
-        blanks,
-        begun,
+        run,
         OthersFirst::new(rt),
         MemorySink::new(alloc, Manner::sound()),
     );

@@ -3,12 +3,10 @@
 ghost use Rattle.std.specs.Prelude.{◌≡◌, ◌≤◌, ◌+◌, ◌<◌, All, Some, length, IfOk};
 ghost use Rattle.run_core.specs.Run.{IsBlank};
 
-use byte_ledger::ledgers::{Blanks, Ledgers};
 use call_types::limits::Limits;
 use run_core::report::{Report, Session};
 use run_core::sessions::run_sessions;
 use run_core::source::{AcceptFailed, Source};
-use run_history::front::{Begun, OfHistory};
 use session_core::connection::Connection;
 use session_core::end::End;
 use session_core::gate::{Gate, OpenGate};
@@ -24,6 +22,7 @@ use std::test::Fail;
 use std::thread::Threads;
 use std::time::Clock;
 use std::{io, thread};
+use system_lock::run::{NewRun, Run};
 use trace_writer::memory::{Manner, MemorySink};
 use trace_writer::sink::Sink;
 use trace_writer::traced::TraceFault;
@@ -103,19 +102,17 @@ fn report_of<
     R: Read + Send + Drop + 'static,
     W: Write + Connection + Send + Drop + 'static,
     G: Gate + Send + Sync + 'static,
-    L: Ledgers + OfHistory + Send + Sync + 'static,
+    L: Run + Send + Sync + 'static,
 >(
     rt: Rt,
     alloc: Global,
     connections: Vec<(R, W)>,
     gate: G,
     limits: Limits,
-    blanks: Blanks,
-    begun: Begun,
+    run: NewRun,
     manner: Manner,
 ) -> Option<Report<R, W, MemorySink>>
-    requires ledgers { blanks ≡ L.names }
-    requires history { begun.seen.book ≡ L.book }
+    requires named { run ≡ record { names = L.names; book = L.book } }
     requires limits { L.limits ≡ Some limits }
     requires blank { All (λ connection. IsBlank (W.contents connection.1)) connections.items }
 {
@@ -132,8 +129,7 @@ fn report_of<
         &mut source,
         sessions,
         limits,
-        blanks,
-        begun,
+        run,
         gate,
         MemorySink::new(alloc, manner),
     );
@@ -159,31 +155,20 @@ fn is_whole_under<
     R: Read + Send + Drop + 'static,
     W: Write + Connection + Send + Drop + 'static,
     G: Gate + Send + Sync + 'static,
-    L: Ledgers + OfHistory + Send + Sync + 'static,
+    L: Run + Send + Sync + 'static,
 >(
     rt: Rt,
     alloc: Global,
     connections: Vec<(R, W)>,
     gate: G,
     limits: Limits,
-    blanks: Blanks,
-    begun: Begun,
+    run: NewRun,
 ) -> Option<bool>
-    requires ledgers { blanks ≡ L.names }
-    requires history { begun.seen.book ≡ L.book }
+    requires named { run ≡ record { names = L.names; book = L.book } }
     requires limits { L.limits ≡ Some limits }
     requires blank { All (λ connection. IsBlank (W.contents connection.1)) connections.items }
 {
-    match report_of::<Rt, R, W, G, L>(
-        rt,
-        alloc,
-        connections,
-        gate,
-        limits,
-        blanks,
-        begun,
-        Manner::sound(),
-    ) {
+    match report_of::<Rt, R, W, G, L>(rt, alloc, connections, gate, limits, run, Manner::sound()) {
         Some(report) => Some(are_whole(&report)),
         None => None,
     }
@@ -366,17 +351,15 @@ fn gate_of(says: Says, said: &Arc<Said>) -> Result<NotedGate, AllocError> {
 /// Whether a run of two sessions is whole whose first answer waits for the other session.
 fn is_whole_others_first<
     Rt: Threads + Wait + Clock + Copy + Drop + Send + Sync + 'static,
-    L: Ledgers + OfHistory + Send + Sync + 'static,
+    L: Run + Send + Sync + 'static,
 >(
     rt: Rt,
     alloc: Global,
     said: &Arc<Said>,
     limits: Limits,
-    blanks: Blanks,
-    begun: Begun,
+    run: NewRun,
 ) -> Result<Option<bool>, AllocError>
-    requires ledgers { blanks ≡ L.names }
-    requires history { begun.seen.book ≡ L.book }
+    requires named { run ≡ record { names = L.names; book = L.book } }
     requires limits { L.limits ≡ Some limits }
 {
     let gate = gate_of(Says::OthersFirst, said)?;
@@ -387,24 +370,20 @@ fn is_whole_others_first<
         connections,
         gate,
         limits,
-        blanks,
-        begun,
+        run,
     ))
 }
 
 /// One run whose first answer waits for the other session.
 fn waits_at_its_gate<
     Rt: Abort + Threads + Wait + Clock + Copy + Drop + Send + Sync + 'static,
-    L: Ledgers + OfHistory + Send + Sync + 'static,
->(rt: Rt, alloc: Global, limits: Limits, blanks: Blanks, begun: Begun) -> Result<(), AllocError>
-    requires ledgers { blanks ≡ L.names }
-    requires history { begun.seen.book ≡ L.book }
+    L: Run + Send + Sync + 'static,
+>(rt: Rt, alloc: Global, limits: Limits, run: NewRun) -> Result<(), AllocError>
+    requires named { run ≡ record { names = L.names; book = L.book } }
     requires limits { L.limits ≡ Some limits }
 {
     let said = Arc::new(alloc, Said::new())?;
-    assert!(rt;
-        is_whole_others_first::<Rt, L>(rt, alloc, &said, limits, blanks, begun)? == Some(true)
-    );
+    assert!(rt; is_whole_others_first::<Rt, L>(rt, alloc, &said, limits, run)? == Some(true));
     let (_, _, first, others) = said.numbers();
     assert_eq!(rt; (first, others), (2, 2));
     Ok(())
@@ -414,13 +393,7 @@ fn waits_at_its_gate<
 fn answer_waits_at_its_gate_for_another_session(rt: HostRuntime) -> Result<(), Fail> {
     for _ in 0..REPEATED {
         let limits = Limits::new(100, 1024)?;
-        waits_at_its_gate::<HostRuntime, Brand>(
-            rt,
-            rt.alloc(),
-            limits,
-            Blanks::new(),
-            Begun::new(),
-        )?;
+        waits_at_its_gate::<HostRuntime, Brand>(rt, rt.alloc(), limits, NewRun::new())?;
     }
     Ok(())
 }
@@ -457,18 +430,16 @@ fn came_of(
 /// What comes of one session over memory, in a run of so many records, under a gate that says this.
 fn under_a_gate<
     Rt: Threads + Wait + Clock + Copy + Drop + Send + Sync + 'static,
-    L: Ledgers + OfHistory + Send + Sync + 'static,
+    L: Run + Send + Sync + 'static,
 >(
     rt: Rt,
     alloc: Global,
     says: Says,
     said: &Arc<Said>,
     limits: Limits,
-    blanks: Blanks,
-    begun: Begun,
+    run: NewRun,
 ) -> Result<Option<(End, usize, u32, usize, u64)>, AllocError>
-    requires ledgers { blanks ≡ L.names }
-    requires history { begun.seen.book ≡ L.book }
+    requires named { run ≡ record { names = L.names; book = L.book } }
     requires limits { L.limits ≡ Some limits }
 {
     let gate = gate_of(says, said)?;
@@ -479,8 +450,7 @@ fn under_a_gate<
         connections,
         gate,
         limits,
-        blanks,
-        begun,
+        run,
         Manner::sound(),
     ) {
         Some(report) => Ok(came_of(&report)),
@@ -498,8 +468,7 @@ fn answer_is_refused_a_thousand_times(rt: HostRuntime) -> Result<(), Fail> {
         Says::No,
         &said,
         limits,
-        Blanks::new(),
-        Begun::new(),
+        NewRun::new(),
     )?;
     // the join, its process's exit and the closing
     assert!(rt; came == Some((End::WriteFault { sent: 0 }, 1, 1_000, 0, 3)));
@@ -517,8 +486,7 @@ fn refusal_is_asked_for_by_the_records_seen(rt: HostRuntime) -> Result<(), Fail>
         Says::Yes,
         &said,
         limits,
-        Blanks::new(),
-        Begun::new(),
+        NewRun::new(),
     )?;
     // the join at place 0, in a frame of 22 bytes, and a refusal in one of 6, since the run is full
     assert!(rt; came == Some((End::Closed, 2, 0, 28, 3)));
@@ -639,16 +607,9 @@ fn two_one_by_one(alloc: Global) -> Result<Vec<(ShyReader, TellingWriter)>, Allo
 /// Whether a run of two sessions is whole whose readers wait for one another.
 fn is_whole_one_by_one<
     Rt: Threads + Wait + Clock + Copy + Drop + Send + Sync + 'static,
-    L: Ledgers + OfHistory + Send + Sync + 'static,
->(
-    rt: Rt,
-    alloc: Global,
-    limits: Limits,
-    blanks: Blanks,
-    begun: Begun,
-) -> Result<Option<bool>, AllocError>
-    requires ledgers { blanks ≡ L.names }
-    requires history { begun.seen.book ≡ L.book }
+    L: Run + Send + Sync + 'static,
+>(rt: Rt, alloc: Global, limits: Limits, run: NewRun) -> Result<Option<bool>, AllocError>
+    requires named { run ≡ record { names = L.names; book = L.book } }
     requires limits { L.limits ≡ Some limits }
 {
     let connections = two_one_by_one(alloc)?;
@@ -658,8 +619,7 @@ fn is_whole_one_by_one<
         connections,
         OpenGate,
         limits,
-        blanks,
-        begun,
+        run,
     ))
 }
 
@@ -671,8 +631,7 @@ fn reader_waits_for_the_answer_of_another_session(rt: HostRuntime) -> Result<(),
             rt,
             rt.alloc(),
             limits,
-            Blanks::new(),
-            Begun::new(),
+            NewRun::new(),
         )?;
         assert!(rt; whole == Some(true));
     }
@@ -706,18 +665,16 @@ fn two_plain(alloc: Global) -> Result<Vec<(MemoryReader, MemoryWriter)>, AllocEr
 /// Whether all answers of two sessions come, in a run whose sink fails so, and whether this is told of its trace.
 fn keeps_no_answer_back<
     Rt: Threads + Wait + Clock + Copy + Drop + Send + Sync + 'static,
-    L: Ledgers + OfHistory + Send + Sync + 'static,
+    L: Run + Send + Sync + 'static,
 >(
     rt: Rt,
     alloc: Global,
     manner: Manner,
     told: (TraceFault, u64),
     limits: Limits,
-    blanks: Blanks,
-    begun: Begun,
+    run: NewRun,
 ) -> Result<Option<bool>, AllocError>
-    requires ledgers { blanks ≡ L.names }
-    requires history { begun.seen.book ≡ L.book }
+    requires named { run ≡ record { names = L.names; book = L.book } }
     requires limits { L.limits ≡ Some limits }
 {
     let connections = two_plain(alloc)?;
@@ -727,8 +684,7 @@ fn keeps_no_answer_back<
         connections,
         OpenGate,
         limits,
-        blanks,
-        begun,
+        run,
         manner,
     ) {
         Some(report) => Ok(Some(came_all_the_same(&report, told.0, told.1))),
@@ -750,8 +706,7 @@ fn sink_that_fails_keeps_no_answer_back(rt: HostRuntime) -> Result<(), Fail> {
             manner,
             (fault, whole),
             limits,
-            Blanks::new(),
-            Begun::new(),
+            NewRun::new(),
         )?;
         assert!(rt; came == Some(true));
     }

@@ -3,7 +3,7 @@ use Rattle.std.specs.Prelude.{Some}
 use Rattle.run_trial.proofs.run.Given as goal
 
 abbrev pub ghosts-ran-L-Ledgers : goal.ghosts-ran-L-Ledgers
-ghosts-ran-L-Ledgers g a = record { names = a.blanks; limits = Some a.limits }
+ghosts-ran-L-Ledgers g a = record { names = a.run.names; limits = Some a.limits }
 
 abbrev pub ghosts-ran-L-OfHistory : goal.ghosts-ran-L-OfHistory
-ghosts-ran-L-OfHistory g a = record { book = a.begun.seen.book }
+ghosts-ran-L-OfHistory g a = record { book = a.run.book }

@@ -3,7 +3,7 @@ use Rattle.std.specs.Prelude.{Some}
 use Rattle.fdref.proofs.serve.serve_on.Given as goal
 
 abbrev pub ghosts-serve_with-L-Ledgers : goal.ghosts-serve_with-L-Ledgers
-ghosts-serve_with-L-Ledgers g a = record { names = a.blanks; limits = Some a.limits }
+ghosts-serve_with-L-Ledgers g a = record { names = a.run.names; limits = Some a.limits }
 
 abbrev pub ghosts-serve_with-L-OfHistory : goal.ghosts-serve_with-L-OfHistory
-ghosts-serve_with-L-OfHistory g a = record { book = a.begun.seen.book }
+ghosts-serve_with-L-OfHistory g a = record { book = a.run.book }

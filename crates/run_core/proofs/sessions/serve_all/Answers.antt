@@ -19,7 +19,7 @@ returns-clause-ended g c = record {
   limits_are = c.into_book.ensures.limits;
   closing = c.close-closed.ensures;
   told = map (λ thread. streams (g.S.Reader.Read.remaining thread.promise.reader.value) (g.S.Writer.Write.contents thread.promise.writer.value)) c.start_all-started.result.running.items;
-  joined = c.join_all-parted.ensures.joined c.close-closed.result.book.history (c.that_has_all.ensures.has c.close-closed.result.book.history (subst (λ (l : List Record). IsPrefix l c.close-closed.result.book.history) (ap (λ b. b.history) c.into_book.ensures.book) (closing_records (world_now c.into_book.result), sym c.close-closed.ensures.history_is)));
+  joined = c.join_all-parted.ensures.joined c.close-closed.result.book.history (c.has_all_of.ensures c.close-closed.result.book.history (subst (λ (l : List Record). IsPrefix l c.close-closed.result.book.history) (ap (λ b. b.history) c.into_book.ensures.book) (closing_records (world_now c.into_book.result), sym c.close-closed.ensures.history_is)));
   gives = c.start_all-started.ensures.gives;
 }
 

@@ -3,7 +3,7 @@ use Rattle.std.specs.Prelude.{Some}
 use Rattle.run_tests.proofs.tests.overlap.answer_waits_at_its_gate_for_another_session.Given as goal
 
 abbrev pub ghosts-waits_at_its_gate-L-Ledgers : goal.ghosts-waits_at_its_gate-L-Ledgers
-ghosts-waits_at_its_gate-L-Ledgers g a = record { names = a.blanks; limits = Some a.limits }
+ghosts-waits_at_its_gate-L-Ledgers g a = record { names = a.run.names; limits = Some a.limits }
 
 abbrev pub ghosts-waits_at_its_gate-L-OfHistory : goal.ghosts-waits_at_its_gate-L-OfHistory
-ghosts-waits_at_its_gate-L-OfHistory g a = record { book = a.begun.seen.book }
+ghosts-waits_at_its_gate-L-OfHistory g a = record { book = a.run.book }

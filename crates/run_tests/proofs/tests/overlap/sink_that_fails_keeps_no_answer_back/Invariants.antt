@@ -3,7 +3,7 @@ use Rattle.std.specs.Prelude.{Some}
 use Rattle.run_tests.proofs.tests.overlap.sink_that_fails_keeps_no_answer_back.Given as goal
 
 abbrev pub ghosts-keeps_no_answer_back-L-Ledgers : goal.ghosts-keeps_no_answer_back-L-Ledgers
-ghosts-keeps_no_answer_back-L-Ledgers g a = record { names = a.blanks; limits = Some a.limits }
+ghosts-keeps_no_answer_back-L-Ledgers g a = record { names = a.run.names; limits = Some a.limits }
 
 abbrev pub ghosts-keeps_no_answer_back-L-OfHistory : goal.ghosts-keeps_no_answer_back-L-OfHistory
-ghosts-keeps_no_answer_back-L-OfHistory g a = record { book = a.begun.seen.book }
+ghosts-keeps_no_answer_back-L-OfHistory g a = record { book = a.run.book }
