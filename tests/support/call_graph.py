@@ -8,9 +8,9 @@ How a name is resolved, where `crates.txt` lets the caller's crate see the calle
   the caller's file names
 - `self.name(..)`, `self.field.name(..)`: the methods of the caller's type, or of the types that the field is declared
   with
-- `.name(..)` else, or where that has none: the methods of each type and trait that the caller's file names; where none
-  of these has one, that of the only type in sight that has. So a type that is named and not meant is counted too, and a
-  name that several types have is lost where the file names none of them.
+- `.name(..)` else, or where that has none: the methods of each type and trait that the caller's file names, and of the
+  traits that such a trait stands on; where none of these has one, that of the only type in sight that has. So a type
+  that is named and not meant is counted too, and a name that several types have is lost where the file names none.
 
 Contracts, ghosts and comments are left out. What cannot be seen: functions that are handed on without a call, what the
 standard library and the crates of the kit call, and drops.
@@ -31,6 +31,7 @@ BLOCK = re.compile(rf"^(?:pub(?:\([^)]*\))? )?(?:unsafe )?(impl|trait)\b([^{{;]*
 FUNCTION = re.compile(rf"\bfn ({NAME})")
 USE = re.compile(r"^\s*(?:pub(?:\([^)]*\))? )?use ([^;]*);", re.MULTILINE)
 GHOST_USE = re.compile(r"\bghost use [^;]*;")
+SUPERTRAITS = re.compile(rf"\btrait ({NAME})(?:<[^{{}}]*?>)?: ([^{{;]*)\{{")
 STRUCT = re.compile(rf"\bstruct ({NAME})[^{{;(]*\{{")
 FIELD = re.compile(rf"({NAME}): ([^,]*)")
 CALL = re.compile(rf"(?:\b(self(?:\.{NAME})*))?(\.)?\b((?:{NAME}::)*)({NAME})(?:::<[^()]*?>)?\(")
@@ -168,10 +169,22 @@ class Graph:
         paths = [it for it in sorted(CRATES.glob("*/src/*.rt")) if not it.parts[-3].endswith(("_tests", "_trial"))]
         self.sources = {source.file: source for source in map(Source, paths)}
         self.fields = {key: of for source in self.sources.values() for key, of in source.fields.items()}
+        self.name_supertraits()
         self.by_name: dict[str, list[Function]] = {}
         for source in self.sources.values():
             for function in source.bodies:
                 self.by_name.setdefault(function.name, []).append(function)
+
+    def name_supertraits(self) -> None:
+        """Adds to the names of each source those of the traits that the traits that it names stand on."""
+        found = (it for source in self.sources.values() for it in SUPERTRAITS.finditer(source.text))
+        above = {it[1]: set(re.findall(NAME, re.sub(r"<[^<>]*(?:<[^<>]*>[^<>]*)*>", "", it[2]))) for it in found}
+        for source in self.sources.values():
+            left = list(source.names & above.keys())
+            while left:
+                new = above.get(left.pop(), set()) - source.names
+                source.names |= new
+                left += new
 
     def root(self, file: str, name: str) -> Function:
         """The function of a file that has a name."""
