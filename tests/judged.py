@@ -49,7 +49,7 @@ def main(words: Sequence[str]) -> int:
     """Makes all checks: the exit status."""
     args = asked(words, "Judges programs by tools/judge.py.", PROGRAM, ONLY)
     count = Count(also=(gnulib.judge.CannotJudge,))
-    parts: list[Part] = [("logs", judged_logs.cases())]
+    parts: list[Part] = [("logs", judged_logs.cases()), ("orders", judged_logs.order_cases(args.program))]
     found = compilers()
     if not found:
         print("no C compiler: no program is judged")

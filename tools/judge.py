@@ -78,7 +78,9 @@ from support.trees import Ended, never, run_tree
 
 import compare
 import past
-from partings import Compared, Finding
+import some_order
+from compare_reasons import Reason
+from partings import OF_TIME, Compared, Finding, Parting
 from standstill import Standstill, seen_beside
 
 SHIM = TOP / "clients" / "preload" / "fdref_preload.c"
@@ -301,13 +303,15 @@ class Job:
 
     def verdict(self) -> "Verdict":
         """What comes of it."""
-        return Verdict(self.both(), self.audited(), self.sessions)
+        return Verdict(self.both(), self.audited(), self.sessions, self.program)
 
 
 class Verdict:
     """What came of a program: how it ended twice, what differs, and what the audit says."""
 
-    def __init__(self, both: Both, audit: str, sessions: int = SESSIONS_MOST) -> None:
+    def __init__(
+        self, both: Both, audit: str, sessions: int = SESSIONS_MOST, program: list[str] | None = None
+    ) -> None:
         self.both = both
         self.audit = audit
         try:
@@ -325,6 +329,43 @@ class Verdict:
         if self.compared.processes > sessions:
             most = f"--sessions, {SESSIONS_MOST} at most"
             raise CannotJudge(f"has {self.compared.processes} processes, and the server takes {sessions} ({most})")
+        self.order = self.ordered(program) if program else None
+
+    def ordered(self, program: list[str]) -> some_order.Ordered | None:
+        """Whether some order of the calls of several processes explains the answers of the system."""
+        is_killed = self.both.system.status is None or past.signals(self.past)
+        doubt = "a process that was killed" if is_killed else past.doubt(self.past)
+        return some_order.ordered_of(self.compared, program, doubt)
+
+    def differs(self) -> bool:
+        """Whether an answer differs that neither a reason nor an order of the calls explains."""
+        if self.order and self.order.is_found is not None:
+            return not self.order.is_found
+        return self.unexplained is not None
+
+    def reason_of(self, finding: Finding) -> Reason | None:
+        """The reason of a finding. Who comes first is none where no order explains the answers."""
+        is_lost = self.order is not None and self.order.is_found is False and finding.reason == OF_TIME
+        return None if is_lost else finding.reason
+
+    def is_by_order(self, finding: Finding) -> bool:
+        """Whether an order that was found explains it."""
+        if not self.order or not self.order.is_found:
+            return False
+        return self.order.is_whole or finding.reason in (None, OF_TIME)
+
+    def first(self) -> Finding:
+        """The finding that is told: one without a reason, if there is one."""
+        unexplained = (it for it in self.findings if not self.reason_of(it) and not it.follows)
+        return next(unexplained, self.findings[0])
+
+    def counted(self) -> list[Finding]:
+        """The findings that no order explains."""
+        return [it for it in self.findings if not self.is_by_order(it)]
+
+    def is_all_compared(self) -> bool:
+        """Whether all that it did was compared, but for what only looks."""
+        return not self.compared.started.calls and not past.doubt(self.past)
 
     def has_ended(self) -> bool:
         """Whether it ended by itself with either of the two."""
@@ -332,7 +373,7 @@ class Verdict:
 
     def status(self) -> int:
         """The exit status."""
-        if self.unexplained or not self.audit.startswith("legal "):
+        if self.differs() or not self.audit.startswith("legal "):
             return 1
         if not self.has_ended() or crash_of(self.both) or self.crashes:
             return 3
@@ -398,23 +439,81 @@ def told_line(who: str, line: Line | None) -> str:
     return f"{who} {place}{line.act} = {line.outcome}" if line else f"{who} no further call"
 
 
-def told_finding(finding: Finding, lines: list[Line], before: int, every: list[past.Past]) -> list[str]:
-    """A parting, with lines before it and its reason, and what went past fdref that it may follow from."""
+def told_finding(verdict: Verdict, before: int) -> list[str]:
+    """The first parting, with lines before it and its reason, and what went past fdref that it may follow from."""
+    finding, lines, every = verdict.first(), verdict.compared.lines, verdict.past
     parting = finding.parting
     earlier = sorted((int(it.place), it) for it in lines if it.place.isdigit() and int(it.place) < parting.place)
     told = [f"  {line.place} {line.act} = {line.outcome}" for _, line in earlier[max(len(earlier) - before, 0) :]]
     told += [told_line("system:", parting.system), told_line("fdref: ", parting.fdref)]
+    if verdict.is_by_order(finding) and verdict.order:
+        return [compare.clipped(line) for line in [*told, f"reason: {verdict.order.told()}"]]
     cause = past.cause_of(finding, every)
-    told += [compare.told_reason(finding.reason), *([past.told_cause(cause, lines)] if cause else [])]
+    told += [compare.told_reason(verdict.reason_of(finding)), *([past.told_cause(cause, lines)] if cause else [])]
+    told += [verdict.order.told()] if verdict.order else []
     if parting.is_asked_otherwise():
         told.append("the calls differ, not the answers: by the number of a process, an address or the time, perhaps")
     return [compare.clipped(line) for line in told]
+
+
+def told_hidden(hidden: list[Parting]) -> list[str]:
+    """How many answers may follow from others, and the first of them with both answers."""
+    first = hidden[0]
+    told = [f"{len(hidden):8} may follow from these, of which the first is"]
+    told += [told_line("           system:", first.system), told_line("           fdref: ", first.fdref)]
+    return [compare.clipped(line) for line in told]
+
+
+def told_agreement(verdict: Verdict) -> str:
+    """What status 0 means."""
+    findings = verdict.counted()
+    rest = "" if verdict.is_all_compared() else " in what was compared, which is not all"
+    order = verdict.order
+    by_order = [order.said] if order and order.is_found else []
+    if not findings:
+        return f"agreement{rest}: {by_order[0] if by_order else 'no answer differs'}"
+    hidden = sum(it.follows for it in findings)
+    parts = [several(len(findings) - hidden, "answer differs with a reason", "answers differ with a reason")]
+    parts += [f"{several(hidden, 'later answer was', 'later answers were')} not judged"] if hidden else []
+    return "; ".join([f"no fault found, which is less than agreement: {', '.join(parts)}", *by_order])
+
+
+def told_difference(verdict: Verdict) -> str:
+    """What status 1 means."""
+    count = sum(not verdict.reason_of(it) and not it.follows for it in verdict.findings)
+    if verdict.differs() and verdict.order and verdict.order.is_found is False:
+        return verdict.order.said
+    if verdict.differs():
+        return several(count, "answer differs without a reason", "answers differ without a reason")
+    if not verdict.audit.startswith("legal "):
+        return "the audit finds a fault in the trace of fdref"
+    return "the two runs end otherwise, or write something else"
+
+
+def told_verdict(verdict: Verdict) -> str:
+    """The last line, which says what the status means."""
+    status = verdict.status()
+    if status == 0:
+        return f"verdict: {told_agreement(verdict)}"
+    return f"verdict: a difference: {told_difference(verdict)}" if status == 1 else "verdict: not judged"
 
 
 def told_strict(every: list[past.Past]) -> list[str]:
     """Where --strict would end the program."""
     ends = [it.said() for it in every if it.is_strict]
     return [compare.clipped(f"--strict ends it at {ends[0]}")] if ends else []
+
+
+def told_counts(verdict: Verdict) -> list[str]:
+    """How many answers have which reason, and how many have none."""
+    counted = verdict.counted()
+    by_order = len(verdict.findings) - len(counted)
+    lines = [f"{by_order:8} by the order of the calls"] if by_order else []
+    reasons = collections.Counter(verdict.reason_of(it) for it in counted)
+    lines += [f"{count:8} {it.name} ({it.who}; {it.page})" for it, count in reasons.items() if it]
+    hidden = [it.parting for it in counted if it.follows]
+    lines += told_hidden(hidden) if hidden else []
+    return [*lines, f"{reasons[None] - len(hidden):8} without a reason"]
 
 
 def told(verdict: Verdict, seconds: float, before: int) -> str:
@@ -426,13 +525,8 @@ def told(verdict: Verdict, seconds: float, before: int) -> str:
     processes = several(len(verdict.compared.fdref.calls), "process", "processes")
     differ = {0: "no answer differs", 1: "1 answer differs"}.get(len(findings), f"{len(findings)} answers differ")
     lines.append(f"{calls} of {processes}: {differ}")
-    if findings:
-        lines += told_finding(verdict.unexplained or findings[0], verdict.compared.lines, before, every)
-    reasons = collections.Counter(it.reason for it in findings if it.reason)
-    lines += [f"{count:8} {reason.name} ({reason.who}; {reason.page})" for reason, count in reasons.items()]
-    follow = sum(it.follows for it in findings)
-    lines += [f"{follow:8} may follow from these"] if follow else []
-    lines += [f"{len(findings) - reasons.total() - follow:8} without a reason"] if findings else []
+    lines += told_finding(verdict, before) if findings else []
+    lines += told_counts(verdict) if findings else []
     lines += map(compare.clipped, told_started(verdict.compared.started) + past.told_past(every))
     return "\n".join([*lines, f"audit: {verdict.audit}"])
 
@@ -540,6 +634,7 @@ def main(words: Sequence[str]) -> int:
         print("judge.py: what is on standard input was not read: --stdin FILE gives it to the program", file=sys.stderr)
     if verdict.status() == 1 and not args.strict:
         print("".join(f"{line}\n" for line in told_strict(verdict.past)), end="")
+    print(told_verdict(verdict))
     return verdict.status()
 
 

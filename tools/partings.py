@@ -17,6 +17,7 @@ from support.runs import Line, line_of
 import compare_reasons
 from compare_lines import is_moved
 from compare_reasons import OWN, REASONS, Difference, Reason, is_append, is_pwrite_appended, process_of
+from reach import Reach
 
 # ---- reasons
 
@@ -44,8 +45,13 @@ def is_past_size(it: Difference) -> bool:
 
 
 # Scripts that are compared do not meet these: one process acts at a time there, and the system has a limit of its own.
+OF_TIME = Reason("what is read of a pipe depends on who comes first", OWN, "page of read", is_of_time)
+EINTR = Reason(
+    "a signal ends a call (EINTR), and signals are outside fdref", OWN, "XSH 2.4.4", lambda it: it.system == "error EINTR"
+)
 MORE_REASONS = [
-    Reason("what is read of a pipe depends on who comes first", OWN, "page of read", is_of_time),
+    EINTR,
+    OF_TIME,
     Reason("more than 1,099,511,627,776 bytes in a file", OWN, "page of write", is_past_size),
 ]
 APPENDED = next(reason for reason in REASONS if reason.fits is is_pwrite_appended)
@@ -110,6 +116,7 @@ class Story:
         # the files that a pwrite under append may have made another on the system
         self.appended: list[plain_model.Regular] = []
         self.shared = shared_reads(trace, limits)
+        self.reach = Reach()
 
     def start_of(self, line: Line) -> int:
         """The place at which a call began that ended with a line."""
@@ -146,7 +153,11 @@ class Story:
             at = process.table.get(act.fields[0]) if process and act.word == "pwrite" else None
             if at and is_append(act, at):
                 self.appended.append(at.regular)
-            self.judge.outcome_of(act)
+                self.reach.differs(self.judge.world, act)
+            is_reached = self.reach.passes(self.judge.world, act)
+            outcome = self.judge.outcome_of(act)
+            if is_reached:
+                self.reach.has_passed(self.judge.world, act, outcome)
         self.place = max(self.place, place)
         return self.judge.world
 
@@ -159,6 +170,8 @@ class Finding(NamedTuple):
     reason: Reason | None
     follows: bool
     names: frozenset[str]
+    # whether both are in the same state after it
+    is_settled: bool = False
 
 
 def partings_of(way: Way, system: list[Line], fdref: list[Line], number: int, story: Story) -> Iterator[Parting]:
@@ -217,7 +230,7 @@ def reason_of(it: Difference, story: Story) -> Reason | None:
     """The reason of a difference, if it has one. It may be by a pwrite under append before it, or by who came first."""
     reason = compare_reasons.reason_of(it) or next((more for more in MORE_REASONS if more.fits(it)), None)
     is_appended = bool(it.at and not it.at.pipe and any(it.at.file is file for file in story.appended))
-    by_others = APPENDED if is_appended else MORE_REASONS[0] if is_shared(it, story) else None
+    by_others = APPENDED if is_appended else OF_TIME if is_shared(it, story) else None
     return reason or by_others
 
 
@@ -244,16 +257,33 @@ def names_of(parting: Parting, world: plain_model.World) -> frozenset[str]:
     return frozenset(found)
 
 
+def act_at(parting: Parting) -> plain_model.Act | None:
+    """The call that both make, where it is one and can be read."""
+    try:
+        return act_of(parting.fdref.act) if parting.fdref and parting.is_same_call() else None
+    except plain_model.NotAnAct:
+        return None
+
+
 def findings_of(partings: list[Parting], story: Story) -> list[Finding]:
-    """The partings with their reasons."""
+    """The partings with their reasons. A call may be another one once any process has got another answer; one that is
+    the same has another answer only where what differed before may have reached it."""
     found: list[Finding] = []
     are_apart = False
     for parting in partings:
         difference = difference_of(parting, story)
         reason = reason_of(difference, story) if difference else None
-        names = names_of(parting, story.world_before(parting.place))
-        found.append(Finding(parting, reason, not reason and are_apart, names))
-        are_apart = are_apart or bool(reason and difference and not difference.is_settled())
+        world = story.world_before(parting.place)
+        act = act_at(parting)
+        follows = not reason and are_apart and (not act or story.reach.reaches(world, act))
+        is_settled = bool(difference and difference.is_settled())
+        found.append(Finding(parting, reason, follows, names_of(parting, world), is_settled))
+        is_apart = follows or bool(reason and not is_settled)
+        are_apart = are_apart or is_apart
+        if is_apart and act:
+            story.reach.differs(world, act)
+        elif is_apart:
+            story.reach.goes_astray(world, parting.number)
     return found
 
 
@@ -274,8 +304,8 @@ class Compared:
     run on the system may have been killed, and the one with fdref may have ended by itself."""
 
     def __init__(self, system: bytes, fdref: bytes, trace: bytes, is_killed: bool, has_ended: bool) -> None:
-        self.lines = read_lines(fdref)
-        on_system, with_fdref = log_of(read_lines(system)), log_of(self.lines)
+        self.lines, self.system_lines = read_lines(fdref), read_lines(system)
+        on_system, with_fdref = log_of(self.system_lines), log_of(self.lines)
         self.processes = len(on_system.calls)
         # a program that is started has other descriptors, and comes in no order of its own: it is not compared
         self.started = with_fdref.of_started()

@@ -170,6 +170,13 @@ def told_past(every: list[Past]) -> list[str]:
     return lines
 
 
+def doubt(every: list[Past]) -> str:
+    """The first thing that may have changed what fdref does not see, or nothing."""
+    kinds = (CALL, STDIO, PROGRAM, PATH, STREAM)
+    likely = [it for it in every if it.kind in kinds and not LOOKS.fullmatch(it.call)]
+    return f"{likely[0].said(' of ')}, which went past fdref," if likely else ""
+
+
 def signals(every: list[Past]) -> list[int]:
     """The signals that ended children."""
     return sorted({int(it.call) for it in every if it.kind == SIGNAL})

@@ -9,7 +9,8 @@
      FDREF_LOG=FILE     Each call that is answered is appended to FILE as a line of fdref: `7 p0 open a rw,creat = 3`.
                         Of a call that waited the place is that of the record that ended it. A join, an attach and an
                         exit have no line. Without FDREF_SOCKET the run is *native*: the system answers, and the lines
-                        are the same, with `-` in place of the place.
+                        are the same, with `-` in place of the place, and of other threads than the first one to make
+                        a call of its process `-1`, `-2` and so on.
      FDREF_STRICT=1     What fdref leaves out is told on standard error, and the program ends with status 125.
      FDREF_PAST=FILE    Each call that is left to the system or fails with ENOSYS, as far as it is seen, is appended to
                         FILE as a line: with the place of the last record of its process, the process, its kind, and

@@ -241,8 +241,10 @@ static pid_t fork_natively(void)
 {
     uint32_t number = __atomic_fetch_add(&shared->next_number, 1, __ATOMIC_SEQ_CST);
     pid_t made = system_fork();
-    if (made == 0)
+    if (made == 0) {
         native_number = number;
+        forget_threads();
+    }
     if (made < 0)
         __atomic_fetch_sub(&shared->next_number, 1, __ATOMIC_SEQ_CST);
     return made == 0 ? 0 : (pid_t)ALONE(note(fdref_act_fork(), fdref_number(number), made));
@@ -278,6 +280,20 @@ static pid_t ended_child(pid_t child, int status)
         child = next words; \
         return child > 0 ? ended_child(child, *status) : child; \
     }
+int waitid(idtype_t kind, id_t which, siginfo_t *given, int options)
+{
+    static __typeof__(&waitid) next;
+    siginfo_t own, *to = given ? given : &own;
+    int done;
+    prepare();
+    find(&next, "waitid");
+    memset(&own, 0, sizeof own);
+    done = next(kind, which, to, options);
+    if (done == 0 && to->si_pid > 0 && (to->si_code == CLD_KILLED || to->si_code == CLD_DUMPED))
+        ended_child(to->si_pid, to->si_status);
+    return done;
+}
+
 WAITS(wait, (int *given), (status))
 WAITS(waitpid, (pid_t which, int *given, int options), (which, status, options))
 WAITS(wait3, (int *given, int options, struct rusage *used), (status, options, used))

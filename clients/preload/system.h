@@ -331,6 +331,24 @@ static void put_outcome(const struct fdref_outcome *outcome)
     }
 }
 
+/* Which thread of its process this one is, of those that have a line of a native run, from 1 on. */
+static __thread int thread_number;
+static int threads;
+
+/* In a child only the thread that forked is there. */
+static void forget_threads(void) { threads = thread_number = 0; }
+
+/* What stands in the place of the place: `-`, and in a native run the number of a thread but the first one after it. */
+static void put_no_place(void)
+{
+    put("-");
+    if (how != NATIVE)
+        return;
+    thread_number = thread_number ? thread_number : ++threads;
+    if (thread_number > 1)
+        put("%d", thread_number - 1);
+}
+
 /* Appends a line: at a place of the record, or `-`; with an outcome, or the name of a refusal. */
 static void log_line(const uint64_t *place, struct fdref_act act, const struct fdref_outcome *outcome,
                      const char *refusal)
@@ -341,7 +359,9 @@ static void log_line(const uint64_t *place, struct fdref_act act, const struct f
     line_size = 0;
     if (place)
         put("%llu", (unsigned long long)*place);
-    put("%s p%lu %s", place ? "" : "-", (unsigned long)(process ? (uint32_t)process->number : native_number),
+    else
+        put_no_place();
+    put(" p%lu %s", (unsigned long)(process ? (uint32_t)process->number : native_number),
         words[act.kind - FDREF_OPEN]);
     for (fields = act.kind == FDREF_OPEN ? "sf" : fields; *fields; fields++)
         put_field(&act, *fields);

@@ -33,6 +33,9 @@ TOO_LARGE = "more than 1,099,511,627,776 bytes in a file"
 APPENDS = "pwrite under O_APPEND appends"
 NAMES = "names that the profile does not take"
 LINKS = "size and links of a pipe in fstat"
+ROOM = "room of a pipe"
+EINTR = "a signal ends a call (EINTR), and signals are outside fdref"
+FULL = "0 p0 join = 0; 1 p0 pipe = 0 1; 2 p0 setfl 1 r,nonblock = ok; 3 p0 write 1 61*2000 = 1024; "
 
 LOGS = [
     Logs("the same calls", "p0 open a w,creat = 0", "0 p0 join = 0; 1 p0 open a w,creat = 0", []),
@@ -84,8 +87,49 @@ LOGS = [
         [
             f"p0 pread 0 0 9: x616263, x6362: {APPENDS}",
             f"p0 fstat 0: regular 3 1, regular 2 1: {APPENDS}",
-            "p0 close 3: ok, error EBADF: follows",
+            "p0 close 3: ok, error EBADF: none",
         ],
+    ),
+    Logs(
+        "what a reason cannot have reached: another file",
+        "p0 pipe = 0 1; p0 setfl 1 r,nonblock = ok; p0 write 1 61*2000 = 2000; p0 read 0 2000 = 61*2000; "
+        "p0 open f rw,creat = 2; p0 lseek 2 0 cur = 3",
+        f"{FULL}4 p0 read 0 2000 = 61*1024; 5 p0 open f rw,creat = 2; 6 p0 lseek 2 0 cur = 0",
+        [
+            f"p0 write 1 61*2000: 2000, 1024: {ROOM}",
+            "p0 read 0 2000: 61*2000, 61*1024: follows",
+            "p0 lseek 2 0 cur: 3, 0: none",
+        ],
+    ),
+    Logs(
+        "what a reason has reached: the same file by another name and another descriptor",
+        "p0 open a rw,creat = 0; p0 link a b%20c = ok; p0 link a d = ok; p0 open d r = 1; p0 fstat 1 = regular 0 3; "
+        "p0 open e r,creat = 2; p0 fstat 2 = regular 0 2",
+        "0 p0 join = 0; 1 p0 open a rw,creat = 0; 2 p0 link a b%20c = error EINVAL; 3 p0 link a d = ok; "
+        "4 p0 open d r = 1; 5 p0 fstat 1 = regular 0 2; 6 p0 open e r,creat = 2; 7 p0 fstat 2 = regular 0 1",
+        [
+            f"p0 link a b%20c: ok, error EINVAL: {NAMES}",
+            "p0 fstat 1: regular 0 3, regular 0 2: follows",
+            "p0 fstat 2: regular 0 2, regular 0 1: none",
+        ],
+    ),
+    Logs(
+        "what a reason has reached: the descriptors of a process and its child",
+        "p0 open a%20b r,creat = 0; p0 fork = 1; p1 close 0 = ok; p0 open c r,creat = 1",
+        "0 p0 join = 0; 1 p0 open a%20b r,creat = error EINVAL; 2 p0 fork = 1; 3 p1 attach = ok; "
+        "4 p1 close 0 = error EBADF; 5 p0 open c r,creat = 0",
+        [
+            f"p0 open a%20b r,creat: 0, error EINVAL: {NAMES}",
+            "p1 close 0: ok, error EBADF: follows",
+            "p0 open c r,creat: 1, 0: follows",
+        ],
+    ),
+    Logs(
+        "a signal that ends a call",
+        "p0 pipe = 0 1; p0 read 0 1 = error EINTR",
+        "0 p0 join = 0; 1 p0 pipe = 0 1; 2 p0 read 0 1 = parked 0",
+        [f"p0 read 0 1: error EINTR, parked 0: {EINTR}"],
+        fdref_ends=KILLED,
     ),
     Logs(
         "flags and names that are the same",
@@ -323,6 +367,188 @@ def are_found(logs: Logs) -> None:
     has_ended = logs.system_ends.status is not None or logs.fdref_ends.status is not None
     wanted = 1 if unexplained else 3 if not has_ended else int(logs.system_ends != logs.fdref_ends)
     same(wanted, verdict.status())
+
+
+class Orders(NamedTuple):
+    """Two logs of several processes: how the line begins that tells whether an order explains the first one, the last
+    line, and the status."""
+
+    name: str
+    system: str
+    fdref: str
+    order: str
+    verdict: str
+    status: int
+    past: str = ""
+
+
+AN_ORDER = "an order of these calls gives all answers of the system"
+OTHERS = AN_ORDER.replace("all answers", "all other answers")
+NO_ORDER = "no order of these calls gives all answers of the system"
+OPEN_ORDER = f"not decided whether {AN_ORDER}: "
+LESS = "no fault found, which is less than agreement: "
+TWO = "p0 pipe = 0 1; p0 fork = 1; p0 fork = 2; "
+TWO_HERE = "0 p0 join = 0; 1 p0 pipe = 0 1; 2 p0 fork = 1; 3 p1 attach = ok; 4 p0 fork = 2; 5 p2 attach = ok; "
+WRITES_HERE = "6 p1 write 1 x6161 = 2; 7 p2 write 1 x6262 = 2; 8 p0 read 0 9 = x61616262"
+EXCL_HERE = "6 p1 open l w,creat,excl = 2; 7 p2 open l w,creat,excl = error EEXIST"
+EXCL = "p1 open l w,creat,excl = error EEXIST; p2 open l w,creat,excl = {}"
+
+ORDERS = [
+    Orders(
+        "two processes and a name that one of them makes",
+        TWO + EXCL.format(2),
+        TWO_HERE + EXCL_HERE,
+        f"reason: {AN_ORDER}",
+        f"agreement: {AN_ORDER}",
+        0,
+    ),
+    Orders(
+        "two processes and a name that nobody makes",
+        TWO + EXCL.format("error EEXIST"),
+        TWO_HERE + EXCL_HERE,
+        NO_ORDER,
+        f"a difference: {NO_ORDER}",
+        1,
+    ),
+    Orders(
+        "two writers of a pipe",
+        TWO + "p2 write 1 x6262 = 2; p1 write 1 x6161 = 2; p0 read 0 9 = x62626161",
+        TWO_HERE + WRITES_HERE,
+        f"reason: {AN_ORDER}",
+        f"agreement: {AN_ORDER}",
+        0,
+    ),
+    Orders(
+        "a write that is torn",
+        TWO + "p1 write 1 x6161 = 2; p2 write 1 x6262 = 2; p0 read 0 9 = x61626261",
+        TWO_HERE + WRITES_HERE,
+        NO_ORDER,
+        f"a difference: {NO_ORDER}",
+        1,
+    ),
+    Orders(
+        "bytes that nobody has written",
+        TWO + "p1 write 1 x6161 = 2; p2 write 1 x6262 = 2; p0 read 0 9 = x61616262; p0 read 0 9 = x3f",
+        TWO_HERE + WRITES_HERE + "; 9 p1 write 1 x63 = 1; 10 p0 read 0 9 = x63",
+        NO_ORDER,
+        f"a difference: {NO_ORDER}",
+        1,
+    ),
+    Orders(
+        "writes whose order is known by their lines",
+        TWO + "p2 write 1 x6262 = 2; p2 close 0 = ok; p1 close 0 = ok; p1 write 1 x6161 = 2; p0 read 0 9 = x61616262",
+        TWO_HERE + "6 p2 write 1 x6262 = 2; 7 p2 close 0 = ok; 8 p1 close 0 = ok; 9 p1 write 1 x6161 = 2; "
+        "10 p0 read 0 9 = x62626161",
+        NO_ORDER,
+        f"a difference: {NO_ORDER}",
+        1,
+    ),
+    Orders(
+        "a reader and a writer of more than a pipe of fdref holds",
+        "p0 pipe = 0 1; p0 fork = 1; p1 write 1 61*2000 = 2000; p0 read 0 9000 = 61*2000",
+        A_PIPE + "4 p1 write 1 61*2000 = parked 1024; 5 p0 read 0 9000 = 61*1024; 6 p1 resume = 2000",
+        f"reason: {AN_ORDER}, where a pipe holds 65,536 bytes: room of a pipe",
+        f"agreement: {AN_ORDER}, where a pipe holds 65,536 bytes: room of a pipe (own; page of write)",
+        0,
+    ),
+    Orders(
+        "another difference that has a reason",
+        TWO + "p0 open a%20b r,creat = 2; " + EXCL.format(2),
+        "0 p0 join = 0; 1 p0 pipe = 0 1; 2 p0 fork = 1; 3 p1 attach = ok; 4 p0 fork = 2; 5 p2 attach = ok; "
+        "6 p0 open a%20b r,creat = error EINVAL; 7 p1 open l w,creat,excl = 2; "
+        "8 p2 open l w,creat,excl = error EEXIST",
+        f"reason: {OTHERS}",
+        f"{LESS}1 answer differs with a reason; {OTHERS}",
+        0,
+    ),
+    Orders(
+        "what went past fdref may be why there is no order",
+        TWO + EXCL.format("error EEXIST"),
+        TWO_HERE + EXCL_HERE,
+        f"{OPEN_ORDER}none was found, but fopen of l, which went past fdref, may be why",
+        "a difference: 1 answer differs without a reason",
+        1,
+        "! 1 p0 stream fopen\tl",
+    ),
+    Orders(
+        "a read that has a reason where no order was decided on",
+        TWO + "p1 write 1 x6161 = 2; p2 write 1 x6262 = 2; p0 read 0 9 = x61626261",
+        TWO_HERE + WRITES_HERE,
+        f"{OPEN_ORDER}none was found, but a process that was killed may be why",
+        f"{LESS}1 answer differs with a reason",
+        0,
+        "- 8 p0 signal 9",
+    ),
+    Orders(
+        "two threads, each of which gets what the other one has with fdref",
+        "p0 open a rw,creat = 0; p0 write 0 x61 = 1; -1 p0 write 0 x62 = 1; p0 pread 0 0 9 = x6261",
+        "0 p0 join = 0; 1 p0 open a rw,creat = 0; 2 p0 write 0 x61 = 1; 3 p0 write 0 x62 = 1; "
+        "4 p0 pread 0 0 9 = x6162",
+        f"reason: {AN_ORDER}",
+        f"agreement: {AN_ORDER}",
+        0,
+    ),
+    Orders(
+        "two threads, and bytes that nobody has written",
+        "p0 open a rw,creat = 0; p0 write 0 x61 = 1; -1 p0 write 0 x62 = 1; p0 pread 0 0 9 = x6361",
+        "0 p0 join = 0; 1 p0 open a rw,creat = 0; 2 p0 write 0 x61 = 1; 3 p0 write 0 x62 = 1; "
+        "4 p0 pread 0 0 9 = x6162",
+        NO_ORDER,
+        f"a difference: {NO_ORDER}",
+        1,
+    ),
+    Orders(
+        "two threads, of which one may have waited",
+        "p0 mkfifo f = ok; p0 open f r = 0; -1 p0 open f w = 1; p0 close 7 = ok",
+        "0 p0 join = 0; 1 p0 mkfifo f = ok; 2 p0 open f r,nonblock = 0; 3 p0 open f w = 1; 4 p0 close 7 = error EBADF",
+        f"{OPEN_ORDER}a thread may have waited in a call",
+        "a difference: 1 answer differs without a reason",
+        1,
+    ),
+    Orders(
+        "one process",
+        "p0 pipe = 0 1; p0 setfl 1 r,nonblock = ok; p0 write 1 61*2000 = 2000; p0 read 0 2000 = 61*2000",
+        f"{FULL}4 p0 read 0 2000 = 61*1024",
+        "",
+        f"{LESS}1 answer differs with a reason, 1 later answer was not judged",
+        0,
+    ),
+]
+
+
+def is_ordered(program: str, orders: Orders) -> None:
+    """Just this is said of the order of the calls, and as the last line."""
+    trace = lines_of(orders.fdref)
+    system = as_bytes([line if line[:1] == "-" else f"- {line}" for line in lines_of(orders.system)])
+    noted = as_bytes(lines_of(orders.past))
+    both = judge.Both(WELL, WELL, system, as_bytes(logged(trace)), trace_of(trace), noted)
+    verdict = judge.Verdict(both, f"legal {len(trace)} rest 0", program=[program])
+    said = judge.told(verdict, 60, 0).splitlines()
+    lines = [line for line in said if "order of these calls" in line]
+    require(all(line.startswith(orders.order) for line in lines) and bool(lines) == bool(orders.order), "\n".join(said))
+    same((f"verdict: {orders.verdict}", orders.status), (judge.told_verdict(verdict), verdict.status()))
+
+
+def order_cases(program: str) -> Iterator[Case]:
+    """Each entry of the table of orders, and what is told of answers that are not judged."""
+    for orders in ORDERS:
+        yield orders.name, partial(is_ordered, program, orders)
+    yield "the first answer that is not judged", tells_hidden
+
+
+def tells_hidden() -> None:
+    """Of the answers that may follow from others the first is told, on both sides."""
+    trace = lines_of(f"{FULL}4 p0 read 0 2000 = 61*1024; 5 p0 read 0 1 = error EAGAIN")
+    lines = ["- p0 pipe = 0 1", "- p0 setfl 1 r,nonblock = ok", "- p0 write 1 61*2000 = 2000"]
+    system = as_bytes([*lines, "- p0 read 0 2000 = 61*2000", "- p0 read 0 1 = x"])
+    verdict = judge.Verdict(judge.Both(WELL, WELL, system, as_bytes(logged(trace)), trace_of(trace)), "legal 6 rest 0")
+    wanted = [
+        "       2 may follow from these, of which the first is",
+        "           system: p0 read 0 2000 = 61*2000",
+        "           fdref:  4 p0 read 0 2000 = 61*1024",
+    ]
+    said = judge.told(verdict, 60, 0).splitlines()
+    require(any(said[at : at + 3] == wanted for at in range(len(said))), "\n".join(said))
 
 
 class Causes(NamedTuple):

@@ -101,6 +101,7 @@ class Judged(NamedTuple):
 
 APPENDS = "reason: pwrite under O_APPEND appends (the system departs; page of write (pwrite))"
 
+AN_ORDER = "an order of these calls gives all answers of the system"
 ROOM = "reason: room of a pipe (own; page of write)"
 NONE = "reason: none"
 SOON = ("--seconds", "2")
@@ -271,8 +272,8 @@ PROGRAMS = [
             f"fdref:  {STILL}",
             "2 calls of 1 process: 3 answers differ",
             "system: p0 write 4 00*2000 = 2000",
-            ROOM,
-            "       2 may follow from these",
+            f"reason: {AN_ORDER}, where a pipe holds 65,536 bytes: room of a pipe (own; page of write)",
+            "       3 by the order of the calls",
             "       0 without a reason",
         ),
         LATE,
@@ -369,11 +370,13 @@ def tells_astray(bench: Bench) -> None:
 
 
 def tells_of_strict(bench: Bench) -> None:
-    """Where a program that differs does what --strict would tell, that is the last line; else it says nothing of it."""
+    """Where a program that differs does what --strict would tell, that is the last line but one; else it says nothing
+    of it."""
     for word, wanted in (("spawns", "--strict ends it at system exit 3"), ("output", "audit: legal")):
         ran = bench.judged("--shim", bench.shim(), bench.compiled("judge_strays"), word)
-        last = ran.stdout.decode("ascii").splitlines()[-1]
-        require(ran.status == 1 and last.startswith(wanted), ran.said())
+        before, last = ran.stdout.decode("ascii").splitlines()[-2:]
+        require(ran.status == 1 and before.startswith(wanted), ran.said())
+        same("verdict: a difference: the two runs end otherwise, or write something else", last)
 
 
 def builds_shim(bench: Bench) -> None:
@@ -389,6 +392,7 @@ def is_illegal(bench: Bench) -> None:
     ran = bench.judged("--shim", bench.shim(), "--strict", "--program", program, bench.compiled("judge_agrees"))
     same((1, b""), (ran.status, ran.stderr))
     lines = [WELL, "18 calls of 1 process: no answer differs", "audit: illegal 5 expected 3"]
+    lines.append("verdict: a difference: the audit finds a fault in the trace of fdref")
     same(lines, ran.stdout.decode("ascii").splitlines())
 
 

@@ -113,7 +113,7 @@ def started(
 def natively(library: Library, words: Sequence[str], before: str = "") -> Given:
     """A program in a native run."""
     given = started(library, words, (), before)
-    require(all(line.startswith("- p") for line in given.log), "a native run has places")
+    require(all(re.match(r"-\d* p", line) for line in given.log), "a native run has places")
     return given
 
 

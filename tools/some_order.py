@@ -1,0 +1,318 @@
+"""Whether some order of the calls that a system made explains all its answers, where a program has several processes.
+
+Each process makes its calls in its own order, and a fork comes before the first call of its child. The log of the run
+on the system tells more: a call has a line once it came back, and the next one of its process begins after that. So a
+call whose line stands before the last line that a process had before another call came first.
+
+What the shim asks aside is no call of the program, and is in the trace of fdref alone: what is before the first call,
+which holds the numbers of real files, and what may come later, of which the answers are left open. So are those of
+calls that have a reason to differ. A call that a signal ended has done nothing, and is left out.
+"""
+
+from collections.abc import Sequence
+from typing import NamedTuple
+
+from support import plain_model
+from support.auditing import act_of
+from support.call_logs import Log, call_of, word_of
+from support.histories import UNKNOWN, Noted
+from support.ordering import ROOMY
+from support.plain_model import TRANSFER_MAX, Limits
+from support.replaying import verified
+from support.runs import Line
+from support.searching import Search, Step, TooLong
+
+from partings import EINTR, OF_TIME, Compared, Finding
+from thread_order import ThreadSearch
+
+STATES_MOST = 200_000
+SECONDS = 20
+# Where no more bytes are written in all, no pipe of Linux is full: small writes go on in a page.
+PAGE = 4_096
+# What the first thread of a process has in the place of the place.
+FIRST_THREAD = "-"
+# The name of a reason that larger pipes take away.
+ROOM = "room of a pipe"
+
+
+AN_ORDER = "an order of these calls gives all answers of the system"
+OTHERS = "an order of these calls gives all other answers of the system"
+
+
+class Ordered(NamedTuple):
+    """Whether an order was found: `is_found`, or None where that was not decided, and what is said of it. It is whole
+    where it gives all answers, and those that have a reason too."""
+
+    is_found: bool | None
+    said: str
+    is_whole: bool = False
+
+    def told(self) -> str:
+        """The line that tells it."""
+        if self.is_found is None:
+            return f"not decided whether {AN_ORDER}: {self.said}"
+        return self.said
+
+
+class Open(Exception):
+    """Why it is not decided."""
+
+
+# ---- what the shim asked aside
+
+
+class Aside(NamedTuple):
+    """An act that the shim made by itself: how many calls of its process came before it, and its outcome."""
+
+    before: int
+    act: str
+    outcome: str
+
+
+def starts_of(trace: Sequence[Line], calls: Sequence[Line]) -> set[int]:
+    """The places at which the calls of a process began."""
+    found = set()
+    for line in calls:
+        place = int(line.place)
+        who = f"p{line.number()} "
+        while word_of(trace[place]) == "resume":
+            place = next(at for at in range(place - 1, -1, -1) if trace[at].act.startswith(who))
+        found.add(place)
+    return found
+
+
+def asides_of(trace: Sequence[Line], number: int | None, calls: Sequence[Line]) -> list[Aside]:
+    """What the shim asked aside as a process, but for looks at a name, which change nothing."""
+    known = starts_of(trace, [line for line in calls if line.place.isdigit()])
+    found, count = [], 0
+    for place, line in enumerate(trace):
+        if line.act.startswith("house ") or line.number() != number:
+            continue
+        if place in known:
+            count += 1
+        elif word_of(line) not in ("join", "attach", "exit", "resume"):
+            found.append(Aside(count, call_of(line), line.outcome))
+    return without_looks(found)
+
+
+def without_looks(asides: list[Aside]) -> list[Aside]:
+    """The same without those that change nothing: an open that failed, and one with its fstat and its close."""
+    found: list[Aside] = []
+    for one in asides:
+        acts = [it.act.split(" ")[0] for it in found[-2:]]
+        if acts == ["open", "fstat"] and one.act == f"close {found[-2].outcome}":
+            del found[-2:]
+        elif not (one.act.startswith("open ") and one.outcome.startswith("error ")):
+            found.append(one)
+    return found
+
+
+# ---- the history
+
+
+class Builder:
+    """The history of the run on the system."""
+
+    def __init__(self, compared: Compared, is_roomy: bool = False) -> None:
+        self.compared = compared
+        self.lines = compared.system_lines
+        self.places = {id(line): place for place, line in enumerate(self.lines)}
+        self.last = 2 * len(self.lines) + 4
+        self.is_exact = True
+        reasons = [it for it in compared.findings if it.reason and it.parting.is_same_call()]
+        known = [OF_TIME.name, ROOM] if is_roomy else [OF_TIME.name]
+        self.unknown = {id(it.parting.system) for it in reasons if it.reason and it.reason.name not in known}
+
+    def has_threads(self) -> bool:
+        """Whether several threads of a process made calls."""
+        return any(line.place != FIRST_THREAD for line in self.lines)
+
+    def history(self) -> list[Noted]:
+        """All of it, where no process has threads."""
+        return [noted for lane in self.lanes() for noted in lane]
+
+    def lanes(self) -> list[list[Noted]]:
+        """The calls of each process, and those of its other threads by themselves."""
+        system, fdref = self.compared.system, self.compared.fdref
+        if self.compared.started.calls or len(self.lines) != system.total():
+            raise Open("it starts programs")
+        found: list[list[Noted]] = []
+        forked = {int(line.outcome): self.after(line) - 1 for line in self.lines if is_fork(line)}
+        for way, number in sorted(system.numbers.items(), key=lambda it: it[1]):
+            calls, own = system.calls[way], fdref.calls.get(way, [])
+            begun, asides = self.begin_of(system, number), asides_of(self.compared.records, fdref.numbers.get(way), own)
+            threads = [line for line in calls if line.place != FIRST_THREAD]
+            same = same_calls(calls, own) if not threads else 0
+            if any(it.before > same for it in asides):
+                raise Open("the shim asked for more in between")
+            first = [line for line in calls if line.place == FIRST_THREAD]
+            came = begin(number, begun, forked.get(number))
+            found.append([came, *self.of_process(number, begun, first, asides, number not in forked)])
+            for name in dict.fromkeys(line.place for line in threads):
+                found.append(self.calls_of(begun, [line for line in threads if line.place == name]))
+        return found
+
+    def begin_of(self, system: Log, number: int) -> int:
+        """The time from which on a process can have made calls: its parent's fork began then."""
+        for calls in system.calls.values():
+            for place, line in enumerate(calls):
+                if is_fork(line) and line.outcome == str(number):
+                    return self.after(calls[place - 1]) if place else self.begin_of(system, line.number())
+        return 1
+
+    def after(self, line: Line) -> int:
+        """The time at which a line was written."""
+        return 2 * self.places[id(line)] + 3
+
+    def of_process(
+        self, number: int, start: int, system: list[Line], asides: list[Aside], is_first: bool
+    ) -> list[Noted]:
+        """The calls of a process after it came, with what the shim asked aside, and its exit, if that came."""
+        found: list[Noted] = []
+        for at, line in enumerate(system):
+            found += self.asked_aside(number, start, at, asides, is_first)
+            found += self.calls_of(start, [line])
+            start = start if is_piece(system[at : at + 2]) else self.after(line)
+        found += self.asked_aside(number, start, len(system), asides, is_first)
+        return [*found, Noted(start, None, plain_model.Act(number, "exit"), UNKNOWN)]
+
+    def calls_of(self, start: int, lines: list[Line]) -> list[Noted]:
+        """Calls one after another, which began after a time."""
+        found: list[Noted] = []
+        for at, line in enumerate(lines):
+            if line.outcome != "error EINTR":
+                outcome = UNKNOWN if id(line) in self.unknown else line.outcome
+                found.append(Noted(start, self.after(line) - 1, read_act(line.act), outcome))
+            start = start if is_piece(lines[at : at + 2]) else self.after(line)
+        return found
+
+    def asked_aside(self, number: int, start: int, at: int, asides: list[Aside], is_first: bool) -> list[Noted]:
+        """What the shim asked aside before a call. What it asked at first is known, and later nothing of it."""
+        found = []
+        for one in asides:
+            if one.before == at and is_first and at == 0:
+                found.append(Noted(0, 0, read_act(f"p{number} {one.act}"), one.outcome))
+            elif one.before == at:
+                self.is_exact = False
+                found.append(Noted(start, self.last, read_act(f"p{number} {one.act}"), UNKNOWN))
+        return found
+
+
+def same_calls(system: list[Line], fdref: list[Line]) -> int:
+    """How many calls are the same from the first on."""
+    both = enumerate(zip(system, fdref, strict=False))
+    return next((at for at, (one, other) in both if call_of(one) != call_of(other)), len(system))
+
+
+def is_fork(line: Line) -> bool:
+    """Whether it is a fork that made a process."""
+    return word_of(line) == "fork" and line.outcome.isdigit()
+
+
+def begin(number: int, begun: int, forked: int | None) -> Noted:
+    """How a process comes: the first one of all, or one that was forked up to a time."""
+    if forked is None:
+        return Noted(0, 0, plain_model.Act(number, "join"), str(number))
+    return Noted(begun, forked, plain_model.Act(number, "attach"), "ok")
+
+
+def is_piece(lines: Sequence[Line]) -> bool:
+    """Whether the first of two lines is a piece of a larger transfer, of which the second is the next one."""
+    if len(lines) < 2 or word_of(lines[0]) not in ("read", "write", "pread", "pwrite"):
+        return False
+    one, other = (line.act.split(" ")[1:3] for line in lines)
+    return one == other and is_full(lines[0])
+
+
+def is_full(line: Line) -> bool:
+    """Whether a call asks for as many bytes as one of fdref may."""
+    act = read_act(line.act)
+    asked = act.fields[-1]
+    return (len(asked) if isinstance(asked, bytes) else asked) == TRANSFER_MAX
+
+
+def read_act(text: str) -> plain_model.Act:
+    """A call of a log."""
+    try:
+        return act_of(text)
+    except plain_model.NotAnAct:
+        raise Open(f"{text} is no call of fdref") from None
+
+
+# ---- searching
+
+
+def written(history: Sequence[Noted]) -> int:
+    """How many bytes all writes have."""
+    return sum(len(it.act.fields[1]) for it in history if it.act.word == "write")
+
+
+def search(builder: Builder, limits: Limits, program: list[str]) -> bool:
+    """Whether an order explains the history. The program has to give the same in that order."""
+    try:
+        found = by_threads(builder, limits) if builder.has_threads() else by_processes(builder, limits)
+    except TooLong as fault:
+        raise Open(f"given up after {fault.states:,} states") from None
+    if found is None:
+        return False
+    steps, history = found
+    verified(program, history, steps, limits)
+    return True
+
+
+def by_processes(builder: Builder, limits: Limits) -> tuple[list[Step], list[Noted]] | None:
+    """An order of the calls of processes, and the history."""
+    ordered = sorted(builder.history(), key=lambda noted: noted.start)
+    steps = Search(ordered, limits, STATES_MOST, SECONDS).order()
+    return None if steps is None else (steps, ordered)
+
+
+def by_threads(builder: Builder, limits: Limits) -> tuple[list[Step], list[Noted]] | None:
+    """An order of the calls of threads, and the history in that order."""
+    threads = ThreadSearch(builder.lanes(), limits, STATES_MOST, SECONDS)
+    found = threads.order()
+    if found is None and threads.has_waited:
+        raise Open("a thread may have waited in a call, beside which others make theirs")
+    if found is None:
+        return None
+    calls = {id(noted): noted for _, noted in found}
+    return [step for step, _ in found], [*calls.values()]
+
+
+def is_open_to(finding: Finding) -> bool:
+    """Whether a finding has a reason by which the runs went apart, so that an order may be missing for that alone."""
+    return bool(finding.reason) and finding.reason not in (OF_TIME, EINTR) and not finding.is_settled
+
+
+def ordered_of(compared: Compared, program: list[str], doubt: str) -> Ordered | None:
+    """Whether some order explains the answers of the system: None where there is nothing to search for. A doubt is why
+    there may be none though the system is right: something was done that has no line."""
+    has_threads = Builder(compared).has_threads()
+    if not compared.findings or (len(compared.system.calls) < 2 and not has_threads):
+        return None
+    try:
+        return found_for(compared, program, doubt)
+    except Open as why:
+        return Ordered(None, str(why))
+
+
+def found_for(compared: Compared, program: list[str], doubt: str) -> Ordered:
+    """The same, where it can be asked."""
+    builder, roomy = Builder(compared), Builder(compared, True)
+    if search(builder, compared.limits, program):
+        return Ordered(True, AN_ORDER if not builder.unknown else OTHERS, not builder.unknown)
+    size = written([noted for lane in builder.lanes() for noted in lane])
+    has_less = compared.limits.capacity < ROOMY.capacity
+    if size > compared.limits.capacity and has_less and search(roomy, ROOMY, program):
+        room = f"where a pipe holds {ROOMY.capacity:,} bytes: {ROOM} (own; page of write)"
+        return Ordered(True, f"{OTHERS if roomy.unknown else AN_ORDER}, {room}", not roomy.unknown)
+    doubts = {
+        doubt: bool(doubt),
+        "another difference with a reason": any(is_open_to(it) for it in compared.findings),
+        "what the shim asked in between": not builder.is_exact,
+        ROOM: size > max(compared.limits.capacity, PAGE if has_less else 0),
+    }
+    why = next((why for why, holds in doubts.items() if holds), "")
+    if why:
+        raise Open(f"none was found, but {why} may be why")
+    return Ordered(False, f"no {AN_ORDER.removeprefix('an ')}")
