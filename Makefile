@@ -5,7 +5,8 @@
 #   make install PREFIX=DIR   installs program, tools, man pages, header, clients and library, and what bash completes
 #   make uninstall PREFIX=DIR removes them
 #
-# PROGRAM names another program to be installed, as out/unproved/fdref, which './fdref build --unproved' makes. The client
+# PROGRAM names another program to be installed, as out/unproved/fdref, which './fdref build --unproved' makes. That one
+# says with each answer that it is not proved, and so do the tools that ask it. The client
 # in Python goes where PYTHON looks, if that is under PREFIX, and else where a Python of that PREFIX would.
 
 PREFIX = /usr/local
@@ -45,8 +46,16 @@ $(SHIM): clients/preload/fdref_preload.c $(wildcard clients/preload/*.h) clients
 test:
 	bash .ci/run
 
+# the unproved program is called by a script that tells so
+ifneq (,$(filter out/unproved/fdref %/out/unproved/fdref,$(PROGRAM)))
+INSTALL_PROGRAM = $(INSTALL) -D -m 755 $(PROGRAM) $(TO)/share/fdref/out/unproved/fdref && \
+    $(INSTALL) -D -m 755 tools/unproved.sh $(TO)/bin/fdref
+else
+INSTALL_PROGRAM = rm -rf $(TO)/share/fdref/out && $(INSTALL) -D -m 755 $(PROGRAM) $(TO)/bin/fdref
+endif
+
 install: all
-	$(INSTALL) -D -m 755 $(PROGRAM) $(TO)/bin/fdref
+	$(INSTALL_PROGRAM)
 	$(INSTALL) -D -m 644 tools/fdref.bash $(TO)/share/bash-completion/completions/fdref
 	$(INSTALL) -D -m 644 docs/fdref.1 $(TO)/share/man/man1/fdref.1
 	$(INSTALL) -D -m 644 docs/fdref_preload.7 $(TO)/share/man/man7/fdref_preload.7

@@ -65,13 +65,15 @@ def program_of(command: str | None) -> list[str]:
 
 
 def built_here() -> str:
-    """The program that is built in this tree, or installed with this tool."""
-    if FDREF.exists():
+    """The program that is built in this tree, or installed with this tool. That bin/fdref is no proved one tells the
+    unproved one beside the tools."""
+    if FDREF.exists() and not (IS_INSTALLED and UNPROVED.exists()):
         return str(FDREF)
-    if IS_INSTALLED:
+    if IS_INSTALLED and not UNPROVED.exists():
         raise CannotRun(f"no program at {FDREF}: 'make install' puts it there")
     if not UNPROVED.exists():
         ways = "'./fdref build' proves and builds it in half an hour or more, './fdref build --unproved' compiles one"
         raise CannotRun(f"no program at {FDREF}: {ways} without proof in a minute")
-    print(f"no proved program is built, and {UNPROVED} is taken, which is not proved", file=sys.stderr)
+    state = "installed" if IS_INSTALLED else "built"
+    print(f"no proved program is {state}, and {UNPROVED} is taken, which is not proved", file=sys.stderr)
     return str(UNPROVED)
