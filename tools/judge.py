@@ -66,6 +66,7 @@ from types import FrameType, TracebackType
 from typing import NamedTuple, Self
 
 from support import plain_model
+from support.auditing import Frames
 from support.call_logs import Log
 from support.commands import add_capacity, add_program, capacity_words, program_of
 from support.counting import Failure
@@ -90,11 +91,14 @@ START_SECONDS = 600
 AUDIT_SECONDS = 120
 END_SECONDS = 20
 SESSIONS_MOST = 64
+# What is said where there are more processes than the server takes.
+MOST_PROCESSES = f" (--sessions, {SESSIONS_MOST} at most)"
 PAUSE = 0.005
 
 # How the shim ends a program where the server could not be asked, and what it says of what is left out.
 NOT_ASKED = 124
 LEAVES_OUT = "uses what fdref leaves out: "
+ALL_TAKEN = b"all sessions are taken"
 IS_TOLD = re.compile(rb"^fdref: (.*)$", re.MULTILINE)
 IS_LEFT_OUT = re.compile(rb"^fdref: (.*) is left out$", re.MULTILINE)
 
@@ -207,6 +211,12 @@ def environment(shim: str, log: str, **more: str) -> dict[str, str]:
     return {**others, "LD_PRELOAD": ":".join([shim, *before]), "FDREF_LOG": log, **more}
 
 
+def processes_in(trace: bytes) -> int:
+    """How many processes came in a run, up to now."""
+    words = (line.split(" ")[2] for line in Frames(trace).lines)
+    return sum(word in ("join", "attach") for word in words)
+
+
 class Both(NamedTuple):
     """How a program ended on the system and with fdref, the logs of both, the trace, and what went past fdref."""
 
@@ -290,6 +300,8 @@ class Job:
         if left_out:
             raise CannotJudge(f"{LEAVES_OUT}{left_out[1].decode('utf-8', 'replace')}")
         said = IS_TOLD.findall(fdref.stderr)
+        if any(ALL_TAKEN in text for text in said) and processes_in(trace) >= self.sessions:
+            raise CannotJudge(f"has more than {self.sessions} processes in all{MOST_PROCESSES}")
         if fdref.status == NOT_ASKED and said:
             lost = f"the server gave no answer: {said[-1].decode('utf-8', 'replace')}"
             raise CannotJudge("; ".join([lost, *past.told_past(past.past_of(noted.read_bytes()))]))
@@ -327,8 +339,8 @@ class Verdict:
             told = told_started(self.compared.started) + past.told_past(self.past)
             raise CannotJudge("; ".join([none, *told]))
         if self.compared.processes > sessions:
-            most = f"--sessions, {SESSIONS_MOST} at most"
-            raise CannotJudge(f"has {self.compared.processes} processes, and the server takes {sessions} ({most})")
+            counted = f"has {self.compared.processes} processes, and the server takes {sessions}"
+            raise CannotJudge(f"{counted}{MOST_PROCESSES}")
         self.order = self.ordered(program) if program else None
 
     def ordered(self, program: list[str]) -> some_order.Ordered | None:
@@ -416,7 +428,13 @@ def told_ends(verdict: Verdict, seconds: float) -> list[str]:
             lines.append(f"standard {what} differs in {difference(one, other, ('system', 'fdref'))}")
             cause = past.cause_of_output(descriptor, every)
             lines += [compare.clipped(past.told_cause(cause, verdict.compared.lines))] if cause else []
+            lines += past.told_looks(every, verdict.compared.records)
     return lines
+
+
+def do_outputs_differ(both: Both) -> bool:
+    """Whether the outputs of the two runs differ."""
+    return (both.system.stdout, both.system.stderr) != (both.fdref.stdout, both.fdref.stderr)
 
 
 def told_waits(records: list[Line]) -> list[str]:
@@ -446,10 +464,13 @@ def told_finding(verdict: Verdict, before: int) -> list[str]:
     earlier = sorted((int(it.place), it) for it in lines if it.place.isdigit() and int(it.place) < parting.place)
     told = [f"  {line.place} {line.act} = {line.outcome}" for _, line in earlier[max(len(earlier) - before, 0) :]]
     told += [told_line("system:", parting.system), told_line("fdref: ", parting.fdref)]
-    if verdict.is_by_order(finding) and verdict.order:
-        return [compare.clipped(line) for line in [*told, f"reason: {verdict.order.told()}"]]
     cause = past.cause_of(finding, every)
-    told += [compare.told_reason(verdict.reason_of(finding)), *([past.told_cause(cause, lines)] if cause else [])]
+    causes = [past.told_cause(cause, lines)] if cause else []
+    if verdict.is_by_order(finding) and verdict.order:
+        # that one of them waits may be why the program did not end
+        causes = causes if cause and cause.kind == past.THREAD else []
+        return [compare.clipped(line) for line in [*told, f"reason: {verdict.order.told()}", *causes]]
+    told += [compare.told_reason(verdict.reason_of(finding)), *causes]
     told += [verdict.order.told()] if verdict.order else []
     if parting.is_asked_otherwise():
         told.append("the calls differ, not the answers: by the number of a process, an address or the time, perhaps")
@@ -472,10 +493,16 @@ def told_agreement(verdict: Verdict) -> str:
     by_order = [order.said] if order and order.is_found else []
     if not findings:
         return f"agreement{rest}: {by_order[0] if by_order else 'no answer differs'}"
+    by_order += told_open(order)
     hidden = sum(it.follows for it in findings)
     parts = [several(len(findings) - hidden, "answer differs with a reason", "answers differ with a reason")]
     parts += [f"{several(hidden, 'later answer was', 'later answers were')} not judged"] if hidden else []
     return "; ".join([f"no fault found, which is less than agreement: {', '.join(parts)}", *by_order])
+
+
+def told_open(order: some_order.Ordered | None) -> list[str]:
+    """That it was not decided whether there is an order."""
+    return ["not decided is whether the order of the calls explains it"] if order and order.is_found is None else []
 
 
 def told_difference(verdict: Verdict) -> str:
@@ -484,10 +511,12 @@ def told_difference(verdict: Verdict) -> str:
     if verdict.differs() and verdict.order and verdict.order.is_found is False:
         return verdict.order.said
     if verdict.differs():
-        return several(count, "answer differs without a reason", "answers differ without a reason")
+        differ = several(count, "answer differs without a reason", "answers differ without a reason")
+        return "; ".join([differ, *told_open(verdict.order)])
     if not verdict.audit.startswith("legal "):
         return "the audit finds a fault in the trace of fdref"
-    return "the two runs end otherwise, or write something else"
+    told = "the two runs end otherwise, or write something else"
+    return f"{told}, though {verdict.order.said}" if verdict.order and verdict.order.is_found else told
 
 
 def told_verdict(verdict: Verdict) -> str:
@@ -527,6 +556,8 @@ def told(verdict: Verdict, seconds: float, before: int) -> str:
     lines.append(f"{calls} of {processes}: {differ}")
     lines += told_finding(verdict, before) if findings else []
     lines += told_counts(verdict) if findings else []
+    is_other = bool(findings) or do_outputs_differ(verdict.both)
+    lines += past.told_signals(every) if is_other else []
     lines += map(compare.clipped, told_started(verdict.compared.started) + past.told_past(every))
     return "\n".join([*lines, f"audit: {verdict.audit}"])
 

@@ -28,6 +28,7 @@ LOOKS = re.compile(
 # Calls that list a folder, in which the files of fdref are missing; by which names lead to another folder; and which
 # take a descriptor that natively is one of a low number.
 LISTS = re.compile(r"opendir|scandir\w*|glob(?:64)?|n?ftw(?:64)?|fts\w*_open|getdents64|getdirentries\w*")
+SETS = re.compile(r"[lf]?chmod\w*|[lf]?chown\w*|umask|(?:f|l)?utime\w*|e?u?i?d?access")
 MOVES = re.compile(r"f?chdir|chroot")
 TAKES = re.compile(r"opendir|mko?stemps?(?:64)?|fts\w*_open|syscall of pipe2?")
 
@@ -147,8 +148,9 @@ def cause_of(finding: Finding, every: list[Past]) -> Past | None:
 
 def cause_of_output(descriptor: str, every: list[Past]) -> Past | None:
     """What it may follow from that something else was written to a descriptor: of what has most to do with that the
-    first, since the first line that differs is told."""
+    first, since the first line that differs is told. Stdio on a file that is none of the outputs changes neither."""
     likely = [it for it in every if it.tells_otherwise() and not LOOKS.fullmatch(it.call)]
+    likely = [it for it in likely if it.kind != STDIO or it.call in ("1", "2")]
     return last_of(likely[::-1], frozenset(), descriptor)
 
 
@@ -170,6 +172,20 @@ def told_past(every: list[Past]) -> list[str]:
     return lines
 
 
+def told_signals(every: list[Past]) -> list[str]:
+    """That a child which a signal ended may be there in fdref for longer than its parent knows."""
+    told = "signal {}: a child that it ended may be open in fdref until after its parent's wait"
+    return [told.format(", ".join(map(str, signals(every))))] if signals(every) else []
+
+
+def told_looks(every: list[Past], records: list[Line]) -> list[str]:
+    """That what is written may tell of modes or times, where the program asked for them."""
+    has_looked = any(line.act.split(" ")[1] == "fstat" for line in records)
+    has_set = any(SETS.fullmatch(it.call) for it in every)
+    told = "may follow from a stat, fstat, access or chmod: modes, owners, times and blocks are fdref's own"
+    return [told] if has_looked or has_set else []
+
+
 def doubt(every: list[Past]) -> str:
     """The first thing that may have changed what fdref does not see, or nothing."""
     kinds = (CALL, STDIO, PROGRAM, PATH, STREAM)
@@ -185,4 +201,4 @@ def signals(every: list[Past]) -> list[int]:
 def told_threads(every: list[Past]) -> list[str]:
     """In which calls a thread waited while others could make none."""
     calls = sorted({it.call for it in every if it.kind == THREAD})
-    return [f"a thread waits in {call}, and no other one makes a call meanwhile" for call in calls]
+    return [f"a thread waits in {call}, and no other one can make a call meanwhile" for call in calls]

@@ -256,7 +256,12 @@ pid_t fork(void)
     return how == OFF ? system_fork() : how == NATIVE ? fork_natively() : (pid_t)ALONE(fork_asked());
 }
 
-pid_t vfork(void) { return fork(); }
+pid_t vfork(void)
+{
+    prepare();
+    goes_past('-', "call", "vfork as a fork, which shares no memory", NULL);
+    return fork();
+}
 
 /* Notes a child that a signal ended, where its parent is told of it. */
 static pid_t ended_child(pid_t child, int status)

@@ -98,7 +98,7 @@ CONTROLS(fcntl64)
 CONTROLS(__fcntl)
 pid_t __fork(void) { return fork(); }
 pid_t __libc_fork(void) { return fork(); }
-pid_t __vfork(void) { return fork(); }
+pid_t __vfork(void) { return vfork(); }
 pid_t _Fork(void) { return fork(); }
 pid_t __wait(int *given) { return wait(given); }
 pid_t __waitpid(pid_t which, int *given, int options) { return waitpid(which, given, options); }

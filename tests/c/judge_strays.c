@@ -1,6 +1,6 @@
 /* Does what the answers of no two systems agree on.
 
-   usage: judge_strays call|answer|output|leaves-out|passes|spawns|starts|stdio|closes|streams|threads
+   usage: judge_strays call|answer|output|leaves-out|passes|spawns|starts|stdio|closes|streams|threads|looks|vforks
 
    call        writes the number of its process into a file
    answer      changes a file by a system call that no library sees, and asks for the size of it
@@ -12,7 +12,9 @@
    stdio       has a file at descriptor 1, to which it prints, and looks at files before and after that
    closes      has a file at descriptor 1, and closes standard output before it opens another one
    streams     makes a file by stdio, and one by a path with a slash, and opens the first
-   threads     has a thread that waits for what another one writes */
+   threads     has a thread that waits for what another one writes
+   looks       has a file at descriptor 0 and prints when its own file was changed
+   vforks      has a child by vfork */
 
 #define _GNU_SOURCE
 
@@ -23,6 +25,7 @@
 #include <string.h>
 #include <sys/stat.h>
 #include <sys/syscall.h>
+#include <sys/wait.h>
 #include <unistd.h>
 
 /* Makes a folder, opens files by paths with a slash, and by stdio, and asks for what no fcntl of fdref has. */
@@ -52,7 +55,7 @@ static int starts(int fd)
 
 static int ends[2];
 
-static void *wait(void *unused)
+static void *wait_for_byte(void *unused)
 {
     char byte;
     return read(ends[0], &byte, 1) == 1 ? unused : NULL;
@@ -61,10 +64,19 @@ static void *wait(void *unused)
 static int threads(void)
 {
     pthread_t thread;
-    if (pipe(ends) != 0 || pthread_create(&thread, NULL, wait, NULL) != 0)
+    if (pipe(ends) != 0 || pthread_create(&thread, NULL, wait_for_byte, NULL) != 0)
         return 1;
     usleep(200000);
     return write(ends[1], "z", 1) != 1 || pthread_join(thread, NULL) != 0;
+}
+
+static int vforks(void)
+{
+    int status;
+    pid_t child = vfork();
+    if (child == 0)
+        _exit(0);
+    return child < 0 || waitpid(child, &status, 0) != child || status != 0;
 }
 
 int main(int count, char **words)
@@ -92,6 +104,10 @@ int main(int count, char **words)
         return 1;
     if (strcmp(what, "streams") == 0)
         streams();
+    if (strcmp(what, "looks") == 0 && dup2(fd, 0) == 0 && fstat(fd, &told) == 0)
+        printf("%d\n", told.st_mtime > 0);
+    if (strcmp(what, "vforks") == 0 && vforks() != 0)
+        return 1;
     if (strcmp(what, "threads") == 0 && threads() != 0)
         return 1;
     if (strcmp(what, "closes") == 0 && (dup2(fd, 1) != 1 || fclose(stdout) != 0 || open("b", O_CREAT, 0600) != 1))

@@ -386,6 +386,7 @@ AN_ORDER = "an order of these calls gives all answers of the system"
 OTHERS = AN_ORDER.replace("all answers", "all other answers")
 NO_ORDER = "no order of these calls gives all answers of the system"
 OPEN_ORDER = f"not decided whether {AN_ORDER}: "
+NOT_DECIDED = "not decided is whether the order of the calls explains it"
 LESS = "no fault found, which is less than agreement: "
 TWO = "p0 pipe = 0 1; p0 fork = 1; p0 fork = 2; "
 TWO_HERE = "0 p0 join = 0; 1 p0 pipe = 0 1; 2 p0 fork = 1; 3 p1 attach = ok; 4 p0 fork = 2; 5 p2 attach = ok; "
@@ -466,7 +467,7 @@ ORDERS = [
         TWO + EXCL.format("error EEXIST"),
         TWO_HERE + EXCL_HERE,
         f"{OPEN_ORDER}none was found, but fopen of l, which went past fdref, may be why",
-        "a difference: 1 answer differs without a reason",
+        f"a difference: 1 answer differs without a reason; {NOT_DECIDED}",
         1,
         "! 1 p0 stream fopen\tl",
     ),
@@ -475,7 +476,7 @@ ORDERS = [
         TWO + "p1 write 1 x6161 = 2; p2 write 1 x6262 = 2; p0 read 0 9 = x61626261",
         TWO_HERE + WRITES_HERE,
         f"{OPEN_ORDER}none was found, but a process that was killed may be why",
-        f"{LESS}1 answer differs with a reason",
+        f"{LESS}1 answer differs with a reason; {NOT_DECIDED}",
         0,
         "- 8 p0 signal 9",
     ),
@@ -502,7 +503,7 @@ ORDERS = [
         "p0 mkfifo f = ok; p0 open f r = 0; -1 p0 open f w = 1; p0 close 7 = ok",
         "0 p0 join = 0; 1 p0 mkfifo f = ok; 2 p0 open f r,nonblock = 0; 3 p0 open f w = 1; 4 p0 close 7 = error EBADF",
         f"{OPEN_ORDER}a thread may have waited in a call",
-        "a difference: 1 answer differs without a reason",
+        f"a difference: 1 answer differs without a reason; {NOT_DECIDED}",
         1,
     ),
     Orders(

@@ -113,7 +113,7 @@ STILL = (
 )
 NEITHER = "neither ended in 2 seconds: both were killed"
 WELL = "both ended with status 0"
-THREAD = b"judge.py: a thread waits in read, and no other one makes a call meanwhile\n"
+THREAD = b"judge.py: a thread waits in read, and no other one can make a call meanwhile\n"
 BAD_ADDRESS = "a crash (SIGSEGV) is no agreement: with the shim a bad address is no EFAULT"
 
 PROGRAMS = [
@@ -235,18 +235,60 @@ PROGRAMS = [
             "fdref:  did not end in 2 seconds, and was killed",
             "system: p0 write 5 x7a = 1",
             "fdref:  7 p0 read 4 1 = parked 0",
-            NONE,
+            f"reason: {AN_ORDER}",
             "may follow from a thread that waits in read (past fdref, after line 6)",
-            "past fdref: a thread waits in read, and no other one makes a call meanwhile",
+            "past fdref: a thread waits in read, and no other one can make a call meanwhile",
             "audit: legal",
             "--strict ends it at a thread that waits in read",
         ),
         SOON,
         THREAD,
     ),
+    Judged(
+        "strays",
+        ("looks",),
+        1,
+        (
+            WELL,
+            r"standard output differs in line 1: system '1\n', fdref '0\n'",
+            "may follow from a stat, fstat, access or chmod: modes, owners, times and blocks are fdref's own",
+            "5 calls of 1 process: no answer differs",
+            "past fdref: stdio on descriptor 0",
+            "verdict: a difference: the two runs end otherwise, or write something else",
+        ),
+    ),
+    Judged(
+        "strays",
+        ("vforks",),
+        0,
+        (
+            WELL,
+            "4 calls of 2 processes: no answer differs",
+            "past fdref: 1 other call (vfork as a fork, which shares no memory)",
+            "verdict: agreement in what was compared, which is not all: no answer differs",
+        ),
+    ),
+    *[
+        Judged("races", (word,), 0, (WELL, "audit: legal", "verdict: agreement: "), stderr=b"")
+        for word in ("excl", "appends", "offset", "pipe", "threads")
+    ],
     Judged("signals", ("kills",), 0, (WELL, "4 calls of 2 processes: no answer differs", "audit: legal")),
     Judged("signals", ("address",), 3, ("both ended by signal 11", BAD_ADDRESS, "1 call of 1 process")),
     Judged("signals", ("child",), 3, (WELL, BAD_ADDRESS.replace("a crash", "a child's crash"), "3 calls of 2")),
+    Judged("signals", ("by-number",), 3, (WELL, BAD_ADDRESS.replace("a crash", "a child's crash"), "3 calls of 2")),
+    Judged(
+        "signals",
+        ("interrupts",),
+        1,
+        (
+            "system: ended with status 0",
+            "fdref:  did not end in 2 seconds, and was killed",
+            "system: p0 read 4 1 = error EINTR",
+            "fdref:  7 p0 read 4 1 = parked 0",
+            "reason: a signal ends a call (EINTR), and signals are outside fdref (own; XSH 2.4.4)",
+        ),
+        SOON,
+    ),
     Judged("signals", ("aborts",), 3, ("both ended by signal 6", "a crash (SIGABRT) is no agreement", "1 call")),
     Judged("signals", ("stops",), 0, ("both ended by signal 15", "1 call of 1 process: no answer differs")),
     Judged("stays", ("reads",), 3, (NEITHER, "waits: p1 read ", "2 calls of 2 processes: no answer differs"), SOON),
@@ -287,7 +329,7 @@ PROGRAMS = [
             f"fdref:  {STILL.replace('p0', 'p1')}",
             "system: p1 write 4 00*2000 = 2000",
             "fdref:  8 p1 write 4 00*2000 = parked 1024",
-            ROOM,
+            f"reason: {AN_ORDER}, where a pipe holds 65,536 bytes: room of a pipe (own; page of write)",
         ),
         LATE,
     ),
@@ -445,7 +487,9 @@ def not_run(bench: Bench) -> Iterator[tuple[str, str, tuple[str, ...], tuple[str
     yield "what is left out", left_out, ("--strict", *shim, bench.compiled("judge_strays"), "leaves-out"), ()
     many = "has 7 processes, and the server takes 2 (--sessions, 64 at most)"
     few = ("--sessions", "2", "--seconds", "2", *shim, bench.compiled("judge_family"))
-    yield "more processes than sessions", many, few, ()
+    yield "more processes than sessions, which is found late", many, few, ()
+    told = "has more than 2 processes in all (--sessions, 64 at most)"
+    yield "more processes than sessions", told, ("--sessions", "2", *shim, bench.compiled("judge_family")), ()
 
 
 def ends_by_signal(bench: Bench) -> None:
