@@ -25,22 +25,31 @@ others do, which is told at once on standard error.
 
 Told is how both ended, and where they part: the first call whose answer differs and has no reason, else
 the first that differs, after some lines before it and with its reason. The reasons are those of
-tools/compare.py, who comes first at a pipe, and the size that a file may have. With --pipe-capacity
-65536 a pipe of fdref holds as much as one of Linux. Each process is compared in the order of its own
-calls. A program that is started by system, popen or posix_spawn has not the descriptors of fdref, and is
-not compared, which is told. Where a difference with a reason leaves system and fdref apart, answers that
-differ later may follow from it, and are only counted. Where with fdref all processes wait for two
+tools/compare.py, who comes first at a pipe, a signal that ends a call, and the size that a file may have.
+With --pipe-capacity 65536 a pipe of fdref holds as much as one of Linux. Each process is compared in the
+order of its own calls. A program that is started by system, popen or posix_spawn has not the descriptors of
+fdref, and is not compared, which is told. Where a difference with a reason leaves system and fdref apart,
+answers that differ later may follow from it, where they have to do with a descriptor, a file or a name that
+it can have reached: they are counted, and the first is told. Where with fdref all processes wait for two
 seconds, one of them in a write that would go into a pipe of 65,536 bytes, they are killed; a parent may
 wait for a child meanwhile. At last fdref audits the trace of its server.
+
+Where processes or threads act at once, their answers depend on who is first. So where one differs an order of
+the system's own calls is searched for, in which the model of fdref gives all its answers: each process or
+thread keeps its order, a fork is before the first call of its child, and a call that came back before another
+one began is before it. It is run through fdref then. If there is one, the two agree as far as that goes; if
+there is none, they do not. After 20 seconds or 200,000 states the search is given up, and it decides nothing
+where what has no line may be why it found none: that is told. Then a read of a pipe may have the reason that
+it depends on who comes first.
 
 The processes of a program may come in another order in the next run, and where its answers depend on
 that, so may what is told of it.
 
-Exit status: 0 where both ended by themselves, with the same status, standard output and standard error,
-each answer that differs has a reason or may follow from one that has, and the audit finds the trace legal,
-whatever went past fdref; 1 where one of these is not so; 2 for wrong words; 3 where the program could not
-be run or compared, ended with neither, or crashed with both, as by a bad address, or where a child did
-so with fdref for which it waited.
+The last line says what the exit status means, which is 0 where both ended by themselves, with the same
+status, standard output and standard error, each answer that differs has a reason, may follow from one that
+has, or comes by another order, and the audit finds the trace legal, whatever went past fdref; 1 where one of
+these is not so; 2 for wrong words; 3 where the program could not be run or compared, ended with neither, or
+crashed with both, as by a bad address, or where a child did so with fdref for which it waited.
 """
 
 import argparse

@@ -46,9 +46,8 @@ def is_past_size(it: Difference) -> bool:
 
 # Scripts that are compared do not meet these: one process acts at a time there, and the system has a limit of its own.
 OF_TIME = Reason("what is read of a pipe depends on who comes first", OWN, "page of read", is_of_time)
-EINTR = Reason(
-    "a signal ends a call (EINTR), and signals are outside fdref", OWN, "XSH 2.4.4", lambda it: it.system == "error EINTR"
-)
+SIGNALS = "a signal ends a call (EINTR), and signals are outside fdref"
+EINTR = Reason(SIGNALS, OWN, "XSH 2.4.4", lambda it: it.system == "error EINTR")
 MORE_REASONS = [
     EINTR,
     OF_TIME,

@@ -174,7 +174,7 @@ def told_past(every: list[Past]) -> list[str]:
 
 def told_signals(every: list[Past]) -> list[str]:
     """That a child which a signal ended may be there in fdref for longer than its parent knows."""
-    told = "signal {}: a child that it ended may be open in fdref until after its parent's wait"
+    told = "signal {}: fdref may record the exit of a child that it ended after its parent's wait"
     return [told.format(", ".join(map(str, signals(every))))] if signals(every) else []
 
 

@@ -27,7 +27,7 @@ from thread_order import ThreadSearch
 
 STATES_MOST = 200_000
 SECONDS = 20
-# Where no more bytes are written in all, no pipe of Linux is full: small writes go on in a page.
+# Where no more bytes are written to pipes in all, none of Linux is full: small writes go on in a page.
 PAGE = 4_096
 # What the first thread of a process has in the place of the place.
 FIRST_THREAD = "-"
@@ -157,7 +157,8 @@ class Builder:
         for calls in system.calls.values():
             for place, line in enumerate(calls):
                 if is_fork(line) and line.outcome == str(number):
-                    return self.after(calls[place - 1]) if place else self.begin_of(system, line.number())
+                    own = [it for it in calls[:place] if it.place == line.place]
+                    return self.after(own[-1]) if own else self.begin_of(system, line.number())
         return 1
 
     def after(self, line: Line) -> int:
@@ -170,10 +171,10 @@ class Builder:
         """The calls of a process after it came, with what the shim asked aside, and its exit, if that came."""
         found: list[Noted] = []
         for at, line in enumerate(system):
-            found += self.asked_aside(number, start, at, asides, is_first)
+            found += self.asked_aside(number, (start, self.after(line) - 1), at, asides, is_first)
             found += self.calls_of(start, [line])
             start = start if is_piece(system[at : at + 2]) else self.after(line)
-        found += self.asked_aside(number, start, len(system), asides, is_first)
+        found += self.asked_aside(number, (start, self.last), len(system), asides, is_first)
         return [*found, Noted(start, None, plain_model.Act(number, "exit"), UNKNOWN)]
 
     def calls_of(self, start: int, lines: list[Line]) -> list[Noted]:
@@ -186,15 +187,18 @@ class Builder:
             start = start if is_piece(lines[at : at + 2]) else self.after(line)
         return found
 
-    def asked_aside(self, number: int, start: int, at: int, asides: list[Aside], is_first: bool) -> list[Noted]:
-        """What the shim asked aside before a call. What it asked at first is known, and later nothing of it."""
+    def asked_aside(
+        self, number: int, times: tuple[int, int], at: int, asides: list[Aside], is_first: bool
+    ) -> list[Noted]:
+        """What the shim asked aside before a call, between two times. What it asked at first is known, and later no
+        answer is."""
         found = []
         for one in asides:
             if one.before == at and is_first and at == 0:
                 found.append(Noted(0, 0, read_act(f"p{number} {one.act}"), one.outcome))
             elif one.before == at:
                 self.is_exact = False
-                found.append(Noted(start, self.last, read_act(f"p{number} {one.act}"), UNKNOWN))
+                found.append(Noted(*times, read_act(f"p{number} {one.act}"), UNKNOWN))
         return found
 
 
@@ -243,7 +247,9 @@ def read_act(text: str) -> plain_model.Act:
 
 
 def written(history: Sequence[Noted]) -> int:
-    """How many bytes all writes have."""
+    """How many bytes may go into pipes."""
+    if not any(it.act.word in ("pipe", "mkfifo") for it in history):
+        return 0
     return sum(len(it.act.fields[1]) for it in history if it.act.word == "write")
 
 
@@ -310,9 +316,9 @@ def found_for(compared: Compared, program: list[str], doubt: str) -> Ordered:
         doubt: bool(doubt),
         "another difference with a reason": any(is_open_to(it) for it in compared.findings),
         "what the shim asked in between": not builder.is_exact,
-        ROOM: size > max(compared.limits.capacity, PAGE if has_less else 0),
+        ROOM: size > PAGE,
     }
     why = next((why for why, holds in doubts.items() if holds), "")
     if why:
         raise Open(f"none was found, but {why} may be why")
-    return Ordered(False, f"no {AN_ORDER.removeprefix('an ')}")
+    return Ordered(False, f"no {(OTHERS if builder.unknown else AN_ORDER).removeprefix('an ')}")

@@ -9,6 +9,7 @@ from support.frames import trace_of
 from support.trees import Ended
 
 import judge
+import past
 
 WELL = Ended(0, b"", b"")
 KILLED = Ended(None, b"", b"")
@@ -535,6 +536,8 @@ def order_cases(program: str) -> Iterator[Case]:
     for orders in ORDERS:
         yield orders.name, partial(is_ordered, program, orders)
     yield "the first answer that is not judged", tells_hidden
+    yield "a child that a signal ended", tells_signals
+    yield "stdio on what is no output", blames_outputs
 
 
 def tells_hidden() -> None:
@@ -550,6 +553,24 @@ def tells_hidden() -> None:
     ]
     said = judge.told(verdict, 60, 0).splitlines()
     require(any(said[at : at + 3] == wanted for at in range(len(said))), "\n".join(said))
+
+
+def tells_signals() -> None:
+    """That a child which a signal ended may be there for longer is told where an answer differs, and else not."""
+    trace = lines_of("0 p0 join = 0; 1 p0 close 7 = error EBADF")
+    for answer, is_told in (("error EBADF", False), ("ok", True)):
+        system, noted = as_bytes([f"- p0 close 7 = {answer}"]), as_bytes(["- 1 p0 signal 9"])
+        both = judge.Both(WELL, WELL, system, as_bytes(logged(trace)), trace_of(trace), noted)
+        said = judge.told(judge.Verdict(both, "legal 2 rest 0"), 60, 0).splitlines()
+        told = "signal 9: fdref may record the exit of a child that it ended after its parent's wait"
+        same(is_told, told in said)
+
+
+def blames_outputs() -> None:
+    """What is written differs because of stdio on a file of fdref only where that is one of the outputs."""
+    for descriptor, is_blamed_for_it in (("0", False), ("1", True), ("2", True)):
+        every = past.past_of(as_bytes([f"- 2 p0 stdio {descriptor}"]))
+        same(is_blamed_for_it, past.cause_of_output("1", every) is not None)
 
 
 class Causes(NamedTuple):

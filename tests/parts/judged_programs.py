@@ -489,7 +489,8 @@ def not_run(bench: Bench) -> Iterator[tuple[str, str, tuple[str, ...], tuple[str
     few = ("--sessions", "2", "--seconds", "2", *shim, bench.compiled("judge_family"))
     yield "more processes than sessions, which is found late", many, few, ()
     told = "has more than 2 processes in all (--sessions, 64 at most)"
-    yield "more processes than sessions", told, ("--sessions", "2", *shim, bench.compiled("judge_races"), "excl"), ()
+    short = ("--sessions", "2", "--seconds", "15")
+    yield "more processes than sessions", told, (*short, *shim, bench.compiled("judge_races"), "excl"), ()
 
 
 def ends_by_signal(bench: Bench) -> None:
