@@ -474,16 +474,16 @@ def told_finding(verdict: Verdict, before: int) -> list[str]:
     told = [f"  {line.place} {line.act} = {line.outcome}" for _, line in earlier[max(len(earlier) - before, 0) :]]
     told += [told_line("system:", parting.system), told_line("fdref: ", parting.fdref)]
     cause = past.cause_of(finding, every)
-    causes = [past.told_cause(cause, lines)] if cause else []
+    causes = [compare.clipped(past.told_cause(cause, lines))] if cause else []
+    told = [compare.clipped(line) for line in told]
     if verdict.is_by_order(finding) and verdict.order:
         # that one of them waits may be why the program did not end
-        causes = causes if cause and cause.kind == past.THREAD else []
-        return [compare.clipped(line) for line in [*told, f"reason: {verdict.order.told()}", *causes]]
+        return [*told, f"reason: {verdict.order.told()}", *(causes if cause and cause.kind == past.THREAD else [])]
     told += [compare.told_reason(verdict.reason_of(finding)), *causes]
     told += [verdict.order.told()] if verdict.order else []
     if parting.is_asked_otherwise():
         told.append("the calls differ, not the answers: by the number of a process, an address or the time, perhaps")
-    return [compare.clipped(line) for line in told]
+    return told
 
 
 def told_hidden(hidden: list[Parting]) -> list[str]:

@@ -17,6 +17,8 @@ from support.runs import Line
 CALL, STDIO, THREAD, PROGRAM, STREAM, PATH = "call", "stdio", "thread", "program", "stream", "path"
 # A child that a signal ended, whose number stands in the place of the call.
 SIGNAL = "signal"
+# A vfork, which the shim makes a fork of in both runs.
+VFORK = "vfork"
 COUNTED = {PATH: "path", STREAM: "stream", PROGRAM: "program", CALL: "other call"}
 
 # Calls that change nothing, and tell a program nothing else than natively, or nothing that it goes by.
@@ -66,7 +68,7 @@ class Past(NamedTuple):
         parting = finding.parting
         if self.kind in (THREAD, PROGRAM):
             return True
-        if self.kind == SIGNAL:
+        if self.kind in (SIGNAL, VFORK):
             return False
         if LOOKS.fullmatch(self.call):
             return False
@@ -169,7 +171,8 @@ def told_past(every: list[Past]) -> list[str]:
     for number in sorted({it.call for it in every if it.kind == STDIO}):
         lines.append(f"past fdref: stdio on descriptor {number}, which is a file of fdref, where it would fail")
     lines += [f"past fdref: {it}" for it in told_threads(every)]
-    return lines
+    has_forked = any(it.kind == VFORK for it in every)
+    return [*lines, "vfork is fork in both runs: its child shares no memory with it"] if has_forked else lines
 
 
 def told_signals(every: list[Past]) -> list[str]:

@@ -259,7 +259,7 @@ pid_t fork(void)
 pid_t vfork(void)
 {
     prepare();
-    goes_past('-', "call", "vfork as a fork, which shares no memory", NULL);
+    goes_past('-', "vfork", "fork", NULL);
     return fork();
 }
 

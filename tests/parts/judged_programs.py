@@ -6,6 +6,7 @@ import shlex
 import signal
 import subprocess
 import sys
+import tempfile
 import time
 from collections.abc import Iterator
 from functools import partial
@@ -264,8 +265,8 @@ PROGRAMS = [
         (
             WELL,
             "4 calls of 2 processes: no answer differs",
-            "past fdref: 1 other call (vfork as a fork, which shares no memory)",
-            "verdict: agreement in what was compared, which is not all: no answer differs",
+            "vfork is fork in both runs: its child shares no memory with it",
+            "verdict: agreement: no answer differs",
         ),
     ),
     *[
@@ -360,6 +361,7 @@ def cases(bench: Bench) -> Iterator[Case]:
     for judged in PROGRAMS:
         yield " ".join(["judge_" + judged.name, *judged.words]), partial(is_said, bench, judged)
     yield "a thread that waits, at once", partial(tells_at_once, bench)
+    yield "threads in a log", partial(names_threads, bench)
     yield "what is kept, and standard input", partial(is_kept, bench)
     yield "standard input that is not read", partial(tells_unread, bench)
     yield "what --strict would tell", partial(tells_of_strict, bench)
@@ -381,6 +383,17 @@ def is_kept(bench: Bench) -> None:
         require(data in Path(into, name).read_text(encoding="ascii"), f"{name} has no write of the line")
     audit = run([bench.program, "audit", os.path.join(into, "trace")])
     same((0, b""), (audit.status, audit.stderr))
+
+
+def names_threads(bench: Bench) -> None:
+    """The log of a native run tells threads apart: each of three opens a file of its own, and writes eight times."""
+    with tempfile.TemporaryDirectory(prefix="fdref-") as folder:
+        env = ["env", f"LD_PRELOAD={bench.shim()}", f"FDREF_LOG={folder}/log"]
+        same(0, run([*env, bench.compiled("judge_races"), "threads"], seconds=SECONDS, folder=folder).status)
+        lines = [line.split(" ") for line in Path(folder, "log").read_text(encoding="ascii").splitlines()]
+    words = {place: [it[2] for it in lines if it[0] == place] for place in ("-1", "-2", "-3")}
+    same(dict.fromkeys(words, ["open", *["write"] * 8, "close"]), words)
+    same({"-", *words}, {it[0] for it in lines})
 
 
 def tells_unread(bench: Bench) -> None:
