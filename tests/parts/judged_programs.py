@@ -361,6 +361,7 @@ def cases(bench: Bench) -> Iterator[Case]:
     for judged in PROGRAMS:
         yield " ".join(["judge_" + judged.name, *judged.words]), partial(is_said, bench, judged)
     yield "a thread that waits, at once", partial(tells_at_once, bench)
+    yield "writes that are torn", partial(finds_torn_writes, bench)
     yield "threads in a log", partial(names_threads, bench)
     yield "what is kept, and standard input", partial(is_kept, bench)
     yield "standard input that is not read", partial(tells_unread, bench)
@@ -394,6 +395,18 @@ def names_threads(bench: Bench) -> None:
     words = {place: [it[2] for it in lines if it[0] == place] for place in ("-1", "-2", "-3")}
     same(dict.fromkeys(words, ["open", *["write"] * 8, "close"]), words)
     same({"-", *words}, {it[0] for it in lines})
+
+
+def finds_torn_writes(bench: Bench) -> None:
+    """That the writes of a wrong C library to a pipe are torn is no matter of who comes first."""
+    library = bench.path("torn.so")
+    compiles([bench.compiler, "-O2", *WARNINGS, "-shared", "-fPIC", str(C_TESTS / "torn_writes.c"), "-o", library])
+    words = ["--shim", bench.shim(), bench.compiled("judge_races"), "pipe"]
+    ran = bench.judged(*words, variables=(f"LD_PRELOAD={library}",))
+    lines = ran.stdout.decode("ascii").splitlines()
+    none = "no order of these calls gives all answers of the system"
+    require(ran.status == 1 and NONE in lines and none in lines, ran.said())
+    same(f"verdict: a difference: {none}", lines[-1])
 
 
 def tells_unread(bench: Bench) -> None:
