@@ -38,7 +38,7 @@ Where processes or threads act at once, their answers depend on who is first. So
 the system's own calls is searched for, in which the model of fdref gives all its answers: each process or
 thread keeps its order, a fork is before the first call of its child, and a call that came back before another
 one began is before it. It is run through fdref then. If there is one, the two agree as far as that goes; if
-there is none, they do not. After 20 seconds or 200,000 states the search is given up, and it decides nothing
+there is none, they do not. After 20 seconds or 100,000 states the search is given up, and it decides nothing
 where what has no line may be why it found none: that is told. Then a read of a pipe may have the reason that
 it depends on who comes first.
 

@@ -25,7 +25,8 @@ from support.searching import Search, Step, TooLong
 from partings import EINTR, OF_TIME, Compared, Finding
 from thread_order import ThreadSearch
 
-STATES_MOST = 200_000
+# A search is given up after so many states, or after fewer, where these have many bytes; and after so long.
+STATES_MOST, STATES_LEAST, BYTES_MOST = 100_000, 1_000, 2**30
 SECONDS = 20
 # Where no more bytes are written to pipes in all, none of Linux is full: small writes go on in a page.
 PAGE = 4_096
@@ -127,10 +128,6 @@ class Builder:
         """Whether several threads of a process made calls."""
         return any(line.place != FIRST_THREAD for line in self.lines)
 
-    def history(self) -> list[Noted]:
-        """All of it, where no process has threads."""
-        return [noted for lane in self.lanes() for noted in lane]
-
     def lanes(self) -> list[list[Noted]]:
         """The calls of each process, and those of its other threads by themselves."""
         system, fdref = self.compared.system, self.compared.fdref
@@ -146,7 +143,8 @@ class Builder:
             if any(it.before > same for it in asides):
                 raise Open("the shim asked for more in between")
             first = [line for line in calls if line.place == FIRST_THREAD]
-            came = begin(number, begun, forked.get(number))
+            first_end = self.after(calls[0]) - 1 if calls else self.last
+            came = begin(number, begun, min(forked[number], first_end) if number in forked else None)
             found.append([came, *self.of_process(number, begun, first, asides, number not in forked)])
             for name in dict.fromkeys(line.place for line in threads):
                 found.append(self.calls_of(begun, [line for line in threads if line.place == name]))
@@ -214,7 +212,7 @@ def is_fork(line: Line) -> bool:
 
 
 def begin(number: int, begun: int, forked: int | None) -> Noted:
-    """How a process comes: the first one of all, or one that was forked up to a time."""
+    """How a process comes: the first one of all, or one that was there at a time, as its fork or first call tells."""
     if forked is None:
         return Noted(0, 0, plain_model.Act(number, "join"), str(number))
     return Noted(begun, forked, plain_model.Act(number, "attach"), "ok")
@@ -253,6 +251,13 @@ def written(history: Sequence[Noted]) -> int:
     return sum(len(it.act.fields[1]) for it in history if it.act.word == "write")
 
 
+def most_states(lanes: Sequence[Sequence[Noted]]) -> int:
+    """How many states a search may go through, each of which may have all bytes that are written."""
+    acts = (noted.act for lane in lanes for noted in lane)
+    size = sum(len(act.fields[-1]) for act in acts if act.word in ("write", "pwrite"))
+    return max(STATES_LEAST, min(STATES_MOST, BYTES_MOST // (size + 1)))
+
+
 def search(builder: Builder, limits: Limits, program: list[str]) -> bool:
     """Whether an order explains the history. The program has to give the same in that order."""
     try:
@@ -268,14 +273,16 @@ def search(builder: Builder, limits: Limits, program: list[str]) -> bool:
 
 def by_processes(builder: Builder, limits: Limits) -> tuple[list[Step], list[Noted]] | None:
     """An order of the calls of processes, and the history."""
-    ordered = sorted(builder.history(), key=lambda noted: noted.start)
-    steps = Search(ordered, limits, STATES_MOST, SECONDS).order()
+    lanes = builder.lanes()
+    ordered = sorted((noted for lane in lanes for noted in lane), key=lambda noted: noted.start)
+    steps = Search(ordered, limits, most_states(lanes), SECONDS).order()
     return None if steps is None else (steps, ordered)
 
 
 def by_threads(builder: Builder, limits: Limits) -> tuple[list[Step], list[Noted]] | None:
     """An order of the calls of threads, and the history in that order."""
-    threads = ThreadSearch(builder.lanes(), limits, STATES_MOST, SECONDS)
+    lanes = builder.lanes()
+    threads = ThreadSearch(lanes, limits, most_states(lanes), SECONDS)
     found = threads.order()
     if found is None and threads.has_waited:
         raise Open("a thread may have waited in a call, beside which others make theirs")

@@ -10,6 +10,7 @@ from support.trees import Ended
 
 import judge
 import past
+import some_order
 
 WELL = Ended(0, b"", b"")
 KILLED = Ended(None, b"", b"")
@@ -454,6 +455,24 @@ ORDERS = [
         0,
     ),
     Orders(
+        "a child whose lines come before that of its fork",
+        "p0 pipe = 0 1; p1 write 1 x61 = 1; p1 write 1 x62 = 1; p0 fork = 1; p0 write 1 x63 = 1; "
+        "p0 read 0 9 = x616263",
+        A_PIPE + "4 p0 write 1 x63 = 1; 5 p0 read 0 9 = x63; 6 p1 write 1 x61 = 1; 7 p1 write 1 x62 = 1",
+        f"reason: {AN_ORDER}",
+        f"agreement: {AN_ORDER}",
+        0,
+    ),
+    Orders(
+        "a child whose lines come before that of its fork, and bytes in another order",
+        "p0 pipe = 0 1; p1 write 1 x61 = 1; p1 write 1 x62 = 1; p0 fork = 1; p0 write 1 x63 = 1; "
+        "p0 read 0 9 = x636162",
+        A_PIPE + "4 p0 write 1 x63 = 1; 5 p0 read 0 9 = x63; 6 p1 write 1 x61 = 1; 7 p1 write 1 x62 = 1",
+        NO_ORDER,
+        f"a difference: {NO_ORDER}",
+        1,
+    ),
+    Orders(
         "another difference that has a reason",
         TWO + "p0 open a%20b r,creat = 2; " + EXCL.format(2),
         "0 p0 join = 0; 1 p0 pipe = 0 1; 2 p0 fork = 1; 3 p1 attach = ok; 4 p0 fork = 2; 5 p2 attach = ok; "
@@ -528,7 +547,7 @@ def is_ordered(program: str, orders: Orders) -> None:
     said = judge.told(verdict, 60, 0).splitlines()
     lines = [line for line in said if "order of these calls" in line]
     require(all(line.startswith(orders.order) for line in lines) and bool(lines) == bool(orders.order), "\n".join(said))
-    same((f"verdict: {orders.verdict}", orders.status), (judge.told_verdict(verdict), verdict.status()))
+    same((f"verdict: {orders.verdict}", orders.status), ending(verdict))
 
 
 def order_cases(program: str) -> Iterator[Case]:
@@ -537,6 +556,7 @@ def order_cases(program: str) -> Iterator[Case]:
         yield orders.name, partial(is_ordered, program, orders)
     yield "the first answer that is not judged", tells_hidden
     yield "a child that a signal ended", tells_signals
+    yield "a search that is given up", gives_up
     yield "stdio on what is no output", blames_outputs
 
 
@@ -564,6 +584,27 @@ def tells_signals() -> None:
         said = judge.told(judge.Verdict(both, "legal 2 rest 0"), 60, 0).splitlines()
         told = "signal 9: fdref may record the exit of a child that it ended after its parent's wait"
         same(is_told, told in said)
+
+
+def gives_up() -> None:
+    """A search for an order that takes too many states is given up, which decides nothing."""
+    orders = ORDERS[1]
+    trace = lines_of(orders.fdref)
+    system = as_bytes([f"- {line}" for line in lines_of(orders.system)])
+    before = some_order.STATES_MOST, some_order.STATES_LEAST
+    some_order.STATES_MOST = some_order.STATES_LEAST = 3
+    try:
+        both = judge.Both(WELL, WELL, system, as_bytes(logged(trace)), trace_of(trace))
+        verdict = judge.Verdict(both, f"legal {len(trace)} rest 0", program=["false"])
+    finally:
+        some_order.STATES_MOST, some_order.STATES_LEAST = before
+    require(f"{OPEN_ORDER}given up after 4 states" in judge.told(verdict, 60, 0), judge.told(verdict, 60, 0))
+    same((f"verdict: a difference: 1 answer differs without a reason; {NOT_DECIDED}", 1), ending(verdict))
+
+
+def ending(verdict: judge.Verdict) -> tuple[str, int]:
+    """The last line and the status."""
+    return judge.told_verdict(verdict), verdict.status()
 
 
 def blames_outputs() -> None:
