@@ -314,7 +314,7 @@ class Job:
         if fdref.status == NOT_ASKED and said:
             lost = f"the server gave no answer: {said[-1].decode('utf-8', 'replace')}"
             raise CannotJudge("; ".join([lost, *past.told_past(past.past_of(noted.read_bytes()))]))
-        system, system_log = self.ran("system")
+        system, system_log = self.ran("system", FDREF_STARTS="1")
         return Both(system, fdref, system_log, fdref_log, trace, noted.read_bytes(), still.told)
 
     def audited(self) -> str:

@@ -1,14 +1,16 @@
 """Whether some order of the calls that a system made explains all its answers, where a program has several processes.
 
 Each process makes its calls in its own order, and a fork comes before the first call of its child. The log of the run
-on the system tells more: a call has a line once it came back, and the next one of its process begins after that. So a
-call whose line stands before the last line that a process had before another call came first.
+on the system tells more: a call has a line once it came back, and tells how long the log was when it began. So a call
+whose line stood there by then came first. Where that is not told, the last line of its process was there.
 
 What the shim asks aside is no call of the program, and is in the trace of fdref alone: what is before the first call,
 which holds the numbers of real files, and what may come later, of which the answers are left open. So are those of
 calls that have a reason to differ. A call that a signal ended has done nothing, and is left out.
 """
 
+import bisect
+import itertools
 from collections.abc import Sequence
 from typing import NamedTuple
 
@@ -118,6 +120,7 @@ class Builder:
         self.compared = compared
         self.lines = compared.system_lines
         self.places = {id(line): place for place, line in enumerate(self.lines)}
+        self.ends = [*itertools.accumulate(len(line_text(line)) + 1 for line in self.lines)]
         self.last = 2 * len(self.lines) + 4
         self.is_exact = True
         reasons = [it for it in compared.findings if it.reason and it.parting.is_same_call()]
@@ -126,7 +129,7 @@ class Builder:
 
     def has_threads(self) -> bool:
         """Whether several threads of a process made calls."""
-        return any(line.place != FIRST_THREAD for line in self.lines)
+        return any(thread_of(line) != FIRST_THREAD for line in self.lines)
 
     def lanes(self) -> list[list[Noted]]:
         """The calls of each process, and those of its other threads by themselves."""
@@ -138,16 +141,16 @@ class Builder:
         for way, number in sorted(system.numbers.items(), key=lambda it: it[1]):
             calls, own = system.calls[way], fdref.calls.get(way, [])
             begun, asides = self.begin_of(system, number), asides_of(self.compared.records, fdref.numbers.get(way), own)
-            threads = [line for line in calls if line.place != FIRST_THREAD]
+            threads = [line for line in calls if thread_of(line) != FIRST_THREAD]
             same = same_calls(calls, own) if not threads else 0
             if any(it.before > same for it in asides):
                 raise Open("the shim asked for more in between")
-            first = [line for line in calls if line.place == FIRST_THREAD]
+            first = [line for line in calls if thread_of(line) == FIRST_THREAD]
             first_end = self.after(calls[0]) - 1 if calls else self.last
             came = begin(number, begun, min(forked[number], first_end) if number in forked else None)
             found.append([came, *self.of_process(number, begun, first, asides, number not in forked)])
-            for name in dict.fromkeys(line.place for line in threads):
-                found.append(self.calls_of(begun, [line for line in threads if line.place == name]))
+            for name in dict.fromkeys(map(thread_of, threads)):
+                found.append(self.calls_of(begun, [line for line in threads if thread_of(line) == name]))
         return found
 
     def begin_of(self, system: Log, number: int) -> int:
@@ -155,9 +158,24 @@ class Builder:
         for calls in system.calls.values():
             for place, line in enumerate(calls):
                 if is_fork(line) and line.outcome == str(number):
-                    own = [it for it in calls[:place] if it.place == line.place]
-                    return self.after(own[-1]) if own else self.begin_of(system, line.number())
+                    own = [it for it in calls[:place] if thread_of(it) == thread_of(line)]
+                    known = self.after(own[-1]) if own else self.begin_of(system, line.number())
+                    return self.start_of(line, known)
         return 1
+
+    def start_of(self, line: Line, known: int) -> int:
+        """The time after which a call began: what is known, or what its line tells. That is the same of all lines of
+        one call of the program; otherwise no call began before the last one of its thread had come back."""
+        told = line.place.partition("@")[2]
+        if not told:
+            return known
+        start = 2 * min(bisect.bisect_right(self.ends, int(told)), self.places[id(line)]) + 1
+        if start >= known:
+            return start
+        before = (it for it in reversed(self.lines[: self.places[id(line)]]) if same_thread(it, line))
+        if next(before, line).place != line.place:
+            raise Open("a call was made within another one, as by a handler of a signal")
+        return start
 
     def after(self, line: Line) -> int:
         """The time at which a line was written."""
@@ -179,6 +197,7 @@ class Builder:
         """Calls one after another, which began after a time."""
         found: list[Noted] = []
         for at, line in enumerate(lines):
+            start = self.start_of(line, start)
             if line.outcome != "error EINTR":
                 outcome = UNKNOWN if id(line) in self.unknown else line.outcome
                 found.append(Noted(start, self.after(line) - 1, read_act(line.act), outcome))
@@ -204,6 +223,21 @@ def same_calls(system: list[Line], fdref: list[Line]) -> int:
     """How many calls are the same from the first on."""
     both = enumerate(zip(system, fdref, strict=False))
     return next((at for at, (one, other) in both if call_of(one) != call_of(other)), len(system))
+
+
+def thread_of(line: Line) -> str:
+    """Which thread of its process made a call, as the place of its line tells."""
+    return line.place.partition("@")[0]
+
+
+def same_thread(one: Line, other: Line) -> bool:
+    """Whether two calls are of one thread of one process."""
+    return (one.number(), thread_of(one)) == (other.number(), thread_of(other))
+
+
+def line_text(line: Line) -> str:
+    """A line as it stands in a log."""
+    return f"{line.place} {line.act} = {line.outcome}"
 
 
 def is_fork(line: Line) -> bool:

@@ -11,6 +11,7 @@
                         exit have no line. Without FDREF_SOCKET the run is *native*: the system answers, and the lines
                         are the same, with `-` in place of the place, and of other threads than the first one to make
                         a call of its process `-1`, `-2` and so on.
+     FDREF_STARTS=1     In a native run `@` stands after that, and how many bytes the log had before the call began.
      FDREF_STRICT=1     What fdref leaves out is told on standard error, and the program ends with status 125.
      FDREF_PAST=FILE    Each call that is left to the system or fails with ENOSYS, as far as it is seen, is appended to
                         FILE as a line: with the place of the last record of its process, the process, its kind, and

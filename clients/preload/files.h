@@ -239,8 +239,11 @@ static int64_t fork_asked(void)
 
 static pid_t fork_natively(void)
 {
-    uint32_t number = __atomic_fetch_add(&shared->next_number, 1, __ATOMIC_SEQ_CST);
-    pid_t made = system_fork();
+    uint32_t number;
+    pid_t made;
+    begin_call();
+    number = __atomic_fetch_add(&shared->next_number, 1, __ATOMIC_SEQ_CST);
+    made = system_fork();
     if (made == 0) {
         native_number = number;
         forget_threads();

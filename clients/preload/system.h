@@ -338,6 +338,18 @@ static int threads;
 /* In a child only the thread that forked is there. */
 static void forget_threads(void) { threads = thread_number = 0; }
 
+/* How long the log was before this thread began its call, where that is told in a native run. */
+static int tells_starts;
+static __thread int64_t began;
+
+static void begin_call(void)
+{
+    int error = errno;
+    if (how == NATIVE && tells_starts && log_file >= 0)
+        began = system_lseek(log_file, 0, SEEK_END);
+    errno = error;
+}
+
 /* What stands in the place of the place: `-`, and in a native run the number of a thread but the first one after it. */
 static void put_no_place(void)
 {
@@ -347,6 +359,8 @@ static void put_no_place(void)
     thread_number = thread_number ? thread_number : ++threads;
     if (thread_number > 1)
         put("%d", thread_number - 1);
+    if (tells_starts)
+        put("@%lld", (long long)began);
 }
 
 /* Appends a line: at a place of the record, or `-`; with an outcome, or the name of a refusal. */

@@ -440,7 +440,7 @@ static void end_at_last(void)
 /* Begins where that was not done yet. */
 static void prepare(void)
 {
-    const char *socket_named, *log_named, *past_named, *strict;
+    const char *socket_named, *log_named, *past_named, *strict, *starts;
     int error = errno, is_handed;
     if (how != UNKNOWN)
         return;
@@ -449,7 +449,9 @@ static void prepare(void)
     log_named = getenv("FDREF_LOG");
     past_named = getenv("FDREF_PAST");
     strict = getenv("FDREF_STRICT");
+    starts = getenv("FDREF_STARTS");
     is_strict = strict && strcmp(strict, "1") == 0;
+    tells_starts = starts && strcmp(starts, "1") == 0;
     how = socket_named ? ASKED : log_named ? NATIVE : OFF;
     if (log_named)
         log_file = opened_log(log_named);
@@ -477,7 +479,11 @@ __attribute__((constructor)) static void prepare_at_load(void) { prepare(); }
 /* PASS: the call is the system's alone. NOTE: the same, and logged. ASK: it is asked of fdref. */
 enum way { PASS, NOTE, ASK };
 
-static enum way way_of_ours(void) { return how == OFF ? PASS : how == NATIVE ? NOTE : ASK; }
+static enum way way_of_ours(void)
+{
+    begin_call();
+    return how == OFF ? PASS : how == NATIVE ? NOTE : ASK;
+}
 
 /* The way of a call with a descriptor. In a native run the kernel knows best which are open. */
 static enum way way_of(int fd)

@@ -473,6 +473,33 @@ ORDERS = [
         1,
     ),
     Orders(
+        "a read that began when the byte was there, as its line tells",
+        "-@0 p0 pipe = 0 1; -@20 p0 fork = 1; -@40 p0 setfl 0 r,nonblock = ok; -@20 p1 write 1 x61 = 1; "
+        "-@9999 p0 read 0 9 = error EAGAIN; -@9999 p0 read 0 9 = x61",
+        A_PIPE + "4 p0 setfl 0 r,nonblock = ok; 5 p1 write 1 x61 = 1; 6 p0 read 0 9 = x61; 7 p0 read 0 9 = error EAGAIN",
+        NO_ORDER,
+        f"a difference: {NO_ORDER}",
+        1,
+    ),
+    Orders(
+        "a read that may have begun before, as its line tells",
+        "-@0 p0 pipe = 0 1; -@20 p0 fork = 1; -@40 p0 setfl 0 r,nonblock = ok; -@20 p1 write 1 x61 = 1; "
+        "-@78 p0 read 0 9 = error EAGAIN; -@9999 p0 read 0 9 = x61",
+        A_PIPE + "4 p0 setfl 0 r,nonblock = ok; 5 p1 write 1 x61 = 1; 6 p0 read 0 9 = x61; 7 p0 read 0 9 = error EAGAIN",
+        f"reason: {AN_ORDER}",
+        f"agreement: {AN_ORDER}",
+        0,
+    ),
+    Orders(
+        "a call within another one",
+        "-@0 p0 pipe = 0 1; -@20 p0 fork = 1; -@40 p0 setfl 0 r,nonblock = ok; -@20 p1 write 1 x61 = 1; "
+        "-@78 p0 read 0 9 = error EAGAIN; -@77 p0 read 0 9 = x61",
+        A_PIPE + "4 p0 setfl 0 r,nonblock = ok; 5 p1 write 1 x61 = 1; 6 p0 read 0 9 = x61; 7 p0 read 0 9 = error EAGAIN",
+        f"{OPEN_ORDER}a call was made within another one",
+        f"{LESS}2 answers differ with a reason; {NOT_DECIDED}",
+        0,
+    ),
+    Orders(
         "another difference that has a reason",
         TWO + "p0 open a%20b r,creat = 2; " + EXCL.format(2),
         "0 p0 join = 0; 1 p0 pipe = 0 1; 2 p0 fork = 1; 3 p1 attach = ok; 4 p0 fork = 2; 5 p2 attach = ok; "
