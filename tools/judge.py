@@ -477,8 +477,9 @@ def told_finding(verdict: Verdict, before: int) -> list[str]:
     causes = [compare.clipped(past.told_cause(cause, lines))] if cause else []
     told = [compare.clipped(line) for line in told]
     if verdict.is_by_order(finding) and verdict.order:
-        # that one of them waits may be why the program did not end
-        return [*told, f"reason: {verdict.order.told()}", *(causes if cause and cause.kind == past.THREAD else [])]
+        # why a program makes other calls, or does not end, no order tells
+        is_why = not parting.is_same_call() or (cause and cause.kind == past.THREAD)
+        return [*told, f"reason: {verdict.order.told()}", *(causes if is_why else [])]
     told += [compare.told_reason(verdict.reason_of(finding)), *causes]
     told += [verdict.order.told()] if verdict.order else []
     if parting.is_asked_otherwise():

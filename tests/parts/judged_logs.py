@@ -393,6 +393,7 @@ LESS = "no fault found, which is less than agreement: "
 TWO = "p0 pipe = 0 1; p0 fork = 1; p0 fork = 2; "
 TWO_HERE = "0 p0 join = 0; 1 p0 pipe = 0 1; 2 p0 fork = 1; 3 p1 attach = ok; 4 p0 fork = 2; 5 p2 attach = ok; "
 WRITES_HERE = "6 p1 write 1 x6161 = 2; 7 p2 write 1 x6262 = 2; 8 p0 read 0 9 = x61616262"
+READS_HERE = "5 p1 write 1 x61 = 1; 6 p0 read 0 9 = x61; 7 p0 read 0 9 = error EAGAIN"
 EXCL_HERE = "6 p1 open l w,creat,excl = 2; 7 p2 open l w,creat,excl = error EEXIST"
 EXCL = "p1 open l w,creat,excl = error EEXIST; p2 open l w,creat,excl = {}"
 
@@ -476,7 +477,7 @@ ORDERS = [
         "a read that began when the byte was there, as its line tells",
         "-@0 p0 pipe = 0 1; -@20 p0 fork = 1; -@40 p0 setfl 0 r,nonblock = ok; -@20 p1 write 1 x61 = 1; "
         "-@9999 p0 read 0 9 = error EAGAIN; -@9999 p0 read 0 9 = x61",
-        A_PIPE + "4 p0 setfl 0 r,nonblock = ok; 5 p1 write 1 x61 = 1; 6 p0 read 0 9 = x61; 7 p0 read 0 9 = error EAGAIN",
+        A_PIPE + "4 p0 setfl 0 r,nonblock = ok; " + READS_HERE,
         NO_ORDER,
         f"a difference: {NO_ORDER}",
         1,
@@ -485,7 +486,7 @@ ORDERS = [
         "a read that may have begun before, as its line tells",
         "-@0 p0 pipe = 0 1; -@20 p0 fork = 1; -@40 p0 setfl 0 r,nonblock = ok; -@20 p1 write 1 x61 = 1; "
         "-@78 p0 read 0 9 = error EAGAIN; -@9999 p0 read 0 9 = x61",
-        A_PIPE + "4 p0 setfl 0 r,nonblock = ok; 5 p1 write 1 x61 = 1; 6 p0 read 0 9 = x61; 7 p0 read 0 9 = error EAGAIN",
+        A_PIPE + "4 p0 setfl 0 r,nonblock = ok; " + READS_HERE,
         f"reason: {AN_ORDER}",
         f"agreement: {AN_ORDER}",
         0,
@@ -494,7 +495,7 @@ ORDERS = [
         "a call within another one",
         "-@0 p0 pipe = 0 1; -@20 p0 fork = 1; -@40 p0 setfl 0 r,nonblock = ok; -@20 p1 write 1 x61 = 1; "
         "-@78 p0 read 0 9 = error EAGAIN; -@77 p0 read 0 9 = x61",
-        A_PIPE + "4 p0 setfl 0 r,nonblock = ok; 5 p1 write 1 x61 = 1; 6 p0 read 0 9 = x61; 7 p0 read 0 9 = error EAGAIN",
+        A_PIPE + "4 p0 setfl 0 r,nonblock = ok; " + READS_HERE,
         f"{OPEN_ORDER}a call was made within another one",
         f"{LESS}2 answers differ with a reason; {NOT_DECIDED}",
         0,
