@@ -24,7 +24,10 @@ def names_in(act: plain_model.Act) -> list[bytes]:
 
 def behind(at: plain_model.Description) -> set[Thing]:
     """A description, with its file and its pipe."""
-    return {at, at.file} | ({at.pipe} if at.pipe else set())
+    found: set[Thing] = {at, at.file}
+    if at.pipe:
+        found.add(at.pipe)
+    return found
 
 
 def descriptions(process: plain_model.Process, act: plain_model.Act) -> set[plain_model.Description]:
@@ -47,8 +50,8 @@ class Reach:
         process = world.processes.get(act.actor) if isinstance(act.actor, int) else None
         found: set[Thing] = set() if act.word in OF_NAMES else {("table", act.actor)}
         for name in names_in(act):
-            file = world.names.get(name)
-            found |= {("name", name)} | ({file} if file else set())
+            found.add(("name", name))
+            found |= {world.names[name]} if name in world.names else set()
         for at in descriptions(process, act) if process else ():
             found |= behind(at)
         return found
