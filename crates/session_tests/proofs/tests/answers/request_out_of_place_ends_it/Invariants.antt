@@ -3,7 +3,7 @@ use Rattle.std.specs.Prelude.{Some}
 use Rattle.session_tests.proofs.tests.answers.request_out_of_place_ends_it.Given as goal
 
 abbrev pub ghosts-requests_answered-L-Ledgers : goal.ghosts-requests_answered-L-Ledgers
-ghosts-requests_answered-L-Ledgers g a = record { names = a.run.names; limits = Some a.limits }
+ghosts-requests_answered-L-Ledgers g a = record { names = a.blanks; limits = Some a.limits }
 
 abbrev pub ghosts-requests_answered-L-OfHistory : goal.ghosts-requests_answered-L-OfHistory
-ghosts-requests_answered-L-OfHistory g a = record { book = a.run.book }
+ghosts-requests_answered-L-OfHistory g a = record { book = a.begun.seen.book }
