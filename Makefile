@@ -27,7 +27,7 @@ FOUND = $(shell $(PYTHON) -c '$(FIND_PACKAGES)' '$(PREFIX)')
 PACKAGES = $(eval PACKAGES := $(or $(FOUND),$(error $(PYTHON) does not tell where it looks for packages)))$(PACKAGES)
 
 # The tools that have a name in bin, and all that they are made of or compile, in share/fdref as it is here.
-TOOLS = compare race order judge summary
+TOOLS = compare race order judge waiting summary
 PARTS = $(filter-out tools/build.py, $(wildcard tools/*.py tools/*.[ch] tools/support/*.py)) clients/c/fdref.h \
     $(wildcard clients/preload/*.[ch])
 

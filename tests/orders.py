@@ -12,6 +12,7 @@ The program is crates/fdref/out/fdref where no PATH is given.
     through all of them.
   - What is left out where a history is made short must leave an order to each history that has one.
   - Each order that is found must be one for the program, and tools/order.py must say so, by its lines and its status.
+  - tools/waiting.py tells of traces by hand, and of 40 random ones, who is there and who waits.
   - Histories of 6 processes with 20 calls each are searched, with a wrong answer and without. The longest time is told.
   - 64 clients of a live server make N calls (100,000) at full speed, in C, by clocks of their own. No order is searched
     for: that of the places has to explain them, and answers in wrong places have to be found.
@@ -25,12 +26,13 @@ import sys
 import tempfile
 from collections.abc import Sequence
 
-from parts import clocked_clients, order_tool, random_histories, told_histories
+from parts import clocked_clients, order_tool, random_histories, told_histories, waiting_tool
 from parts.c_programs import builds
 from support.counting import Count
 from support.options import ONLY, PROGRAM, SEED, asked, count_option
 
 TELL_MOST = 10
+TRACES = 40
 
 
 def main(words: Sequence[str]) -> int:
@@ -45,6 +47,7 @@ def main(words: Sequence[str]) -> int:
         ("short parts by hand", told_histories.short_cases()),
         ("lines", order_tool.line_cases()),
         ("tools/order.py", order_tool.cases(program)),
+        ("tools/waiting.py", waiting_tool.cases(program, args.seed, TRACES)),
         ("random histories", random_histories.cases(program, args.seed, args.histories)),
         ("what is left out", random_histories.left_out_cases(args.seed, args.histories)),
         ("6 processes with 20 calls", random_histories.large_cases(program, args.seed)),
