@@ -51,7 +51,7 @@ system_lock Front.as_front: λ f. f
 system_lock InRun.as_seat: λ s. s
 system_lock OneBook.marks: λ _ _. ⊤
 system_lock OneBook.says: λ _. anything
-system_lock SystemLock.marks: λ mark process. mark ≡ marked_at_doors process
+system_lock SystemLock.marks: λ mark process. mark ≡ marked_by_watch process
 system_lock SystemLock.says: said_under L.limits
 system_lock Unlimited.book: L.book
 system_lock Unlimited.limits: None

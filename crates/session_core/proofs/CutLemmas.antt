@@ -212,7 +212,7 @@ off_uncut base input o at why.NoMemory requests of h cut = of
 off_uncut base input o at why.Ahead requests of h cut = not_cut_at h.requests requests o.answers at h.talking cut
 
 -- nor has one whose process ended in the call that it waited in
-ended_unread : (ended : SeatState → Why → Type 0) (seat : SeatState) (cause : LeaveCause) → IsOfReads cause → CauseEndedSaid ended seat cause → ⊥
+ended_unread : (ended : SeatState → SeatState → Why → Type 0) (seat : SeatState) (cause : LeaveCause) → IsOfReads cause → CauseEndedSaid ended seat cause → ⊥
 ended_unread ended seat why.Closed of said = said
 ended_unread ended seat why.ReadFault of said = said
 ended_unread ended seat why.Malformed of said = said

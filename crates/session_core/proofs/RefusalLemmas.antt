@@ -7,7 +7,7 @@ use Rattle.call_types.specs.declared.refusal.Refusal.TheVariants as refusal
 use Rattle.call_types.specs.declared.request.Request.{Request}
 use Rattle.call_types.specs.declared.request.Request.TheVariants as request
 use Rattle.record_book.specs.Seat.{Receipted, SeatState}
-use Rattle.system_lock.specs.Kernel.{AsksForASeat, Says}
+use Rattle.system_lock.specs.Kernel.{AsksForASeat, EndsBy, Says}
 use Rattle.system_lock.specs.declared.kernel.Why.{Why}
 use Rattle.system_lock.specs.declared.kernel.Why.TheVariants as ended_why
 use Rattle.session_core.specs.declared.told.Told.{Told}
@@ -125,21 +125,21 @@ call_refused says handled seat call so old new talking said put are =
     (last_said says handled (request.Call call) old.answers so (inl (record { seat = seat; talked = talking.0; receipts = talking.1; said = said })))
 
 end_put : (says : Says) (base : Option (List ℕ)) (handled : List Request) (call : Call)
-    (seat : SeatState) (old new : OutputState) (so : Refusal) (found : LeaveCause) → PutsGivenUp old new so found → EndTold (says.ended seat) so
+    (seat spent : SeatState) (old new : OutputState) (so : Refusal) (found : LeaveCause) → PutsGivenUp old new so found → EndTold (λ (reason : Why). EndsBy seat spent reason × says.ended seat spent reason) so
     → IsWaitingAt base handled call seat old → AreSaid (RefusalSaid says (handled ++ request.Call call ∷ [])) old.answers → AreSaid (RefusalSaid says (handled ++ request.Call call ∷ [])) new.answers
-end_put says base handled call seat old new so found put said w are =
+end_put says base handled call seat spent old new so found put said w are =
     given_up_put (RefusalSaid says (handled ++ request.Call call ∷ [])) old new so found put are
-    (last_said says handled (request.Call call) old.answers so (inr (record { seat = seat; waits = w.waits; receipts = w.receipts; said = said })))
+    (last_said says handled (request.Call call) old.answers so (inr (record { seat = seat; spent = spent; waits = w.waits; receipts = w.receipts; said = said })))
 
 -- the process of the seat ended in the call that it waited in
 pub ended_refused : (says : Says) (base : Option (List ℕ)) (handled : List Request)
-    (call : Call) (seat spent : SeatState) (reason : Why) (old new : OutputState) (found : Turn) → TellsWhy spent reason old new found → says.ended seat reason
+    (call : Call) (seat spent : SeatState) (reason : Why) (old new : OutputState) (found : Turn) → TellsWhy spent reason old new found → EndsBy seat spent reason → says.ended seat spent reason
     → IsWaitingAt base handled call seat old → AreSaid (RefusalSaid says (handled ++ request.Call call ∷ [])) old.answers → AreSaid (RefusalSaid says (handled ++ request.Call call ∷ [])) new.answers
-ended_refused says base handled call seat spent ended_why.NoMemory old new (turn.Over (over.Ended held why)) tells said w are = end_put says base handled call seat old new refusal.NoMemory why tells.0 said w are
-ended_refused says base handled call seat spent ended_why.RunFull old new (turn.Over (over.Ended held why)) tells said w are = end_put says base handled call seat old new refusal.RunFull why tells.0 said w are
-ended_refused says base handled call seat spent ended_why.Lost old new (turn.Lost held) tells said w are = same_said (RefusalSaid says (handled ++ request.Call call ∷ [])) old new tells.0 are
-ended_refused says base handled call seat spent ended_why.Foreign old new (turn.Over (over.Foreign held)) tells said w are = same_said (RefusalSaid says (handled ++ request.Call call ∷ [])) old new tells.0 are
-ended_refused says base handled call seat spent reason old new found tells said w are = absurd tells
+ended_refused says base handled call seat spent ended_why.NoMemory old new (turn.Over (over.Ended held why)) tells ends said w are = end_put says base handled call seat spent old new refusal.NoMemory why tells.0 (ends, said) w are
+ended_refused says base handled call seat spent ended_why.RunFull old new (turn.Over (over.Ended held why)) tells ends said w are = end_put says base handled call seat spent old new refusal.RunFull why tells.0 (ends, said) w are
+ended_refused says base handled call seat spent ended_why.Lost old new (turn.Lost held) tells ends said w are = same_said (RefusalSaid says (handled ++ request.Call call ∷ [])) old new tells.0 are
+ended_refused says base handled call seat spent ended_why.Foreign old new (turn.Over (over.Foreign held)) tells ends said w are = same_said (RefusalSaid says (handled ++ request.Call call ∷ [])) old new tells.0 are
+ended_refused says base handled call seat spent reason old new found tells ends said w are = absurd tells
 
 -- ---- requests
 

@@ -34,15 +34,15 @@ unopened_said unopened request told old new found (inl put) said = why_refused u
 unopened_said unopened request told old new found (inr none) said = rw none.0 tt
 
 -- the end that is told of a process that ended in the call that it waited in
-full_said : (ended : SeatState → Why → Type 0) (spent : SeatState) (old new : OutputState) (found : LeaveCause) → PutsGivenUp old new refusal.RunFull found → SaidEnded ended spent ended_why.RunFull → CauseEndedSaid ended spent found
+full_said : (ended : SeatState → SeatState → Why → Type 0) (spent : SeatState) (old new : OutputState) (found : LeaveCause) → PutsGivenUp old new refusal.RunFull found → SaidEnded ended spent ended_why.RunFull → CauseEndedSaid ended spent found
 full_said ended spent old new found (inl put) said = rw put.0 said
 full_said ended spent old new found (inr none) said = rw none.0 (inr said)
 
-wanting_said : (ended : SeatState → Why → Type 0) (spent : SeatState) (old new : OutputState) (found : LeaveCause) → PutsGivenUp old new refusal.NoMemory found → SaidEnded ended spent ended_why.NoMemory → CauseEndedSaid ended spent found
+wanting_said : (ended : SeatState → SeatState → Why → Type 0) (spent : SeatState) (old new : OutputState) (found : LeaveCause) → PutsGivenUp old new refusal.NoMemory found → SaidEnded ended spent ended_why.NoMemory → CauseEndedSaid ended spent found
 wanting_said ended spent old new found (inl put) said = rw put.0 (inl said)
 wanting_said ended spent old new found (inr none) said = rw none.0 (inl said)
 
-same_spent : (ended : SeatState → Why → Type 0) (seat spent : SeatState) (reason : Why) → seat ≡ spent → SaidEnded ended spent reason → SaidEnded ended seat reason
+same_spent : (ended : SeatState → SeatState → Why → Type 0) (seat spent : SeatState) (reason : Why) → seat ≡ spent → SaidEnded ended spent reason → SaidEnded ended seat reason
 same_spent ended seat spent reason e said = subst (λ (s : SeatState). SaidEnded ended s reason) (sym e) said
 
 pub given_up_said : (says : Says) (spent : SeatState) (reason : Why) (old new : OutputState) (found : Turn) → TellsWhy spent reason old new found → SaidEnded says.ended spent reason → TurnSaid says found

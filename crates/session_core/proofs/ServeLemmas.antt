@@ -101,10 +101,10 @@ pub unwritten_by : (s : SessionState) (remaining : Option (Option (List ℕ))) (
 unwritten_by s remaining held writer found e h = h (ap (λ (w : LoggedWriterState). w.log) e) ∙ ap (λ (w : LoggedWriterState). unserved_by remaining w.contents found) e
 
 -- neither is closed
-pub unserved_open : (ended : SeatState → Why → Type 0) (answers : List Told) → CutSaid ended None answers end.NoMemory
+pub unserved_open : (ended : SeatState → SeatState → Why → Type 0) (answers : List Told) → CutSaid ended None answers end.NoMemory
 unserved_open ended answers of requests cut = absurd of
 
-pub unstarted_open : (ended : SeatState → Why → Type 0) (answers : List Told) → CutSaid ended None answers end.NoThread
+pub unstarted_open : (ended : SeatState → SeatState → Why → Type 0) (answers : List Told) → CutSaid ended None answers end.NoThread
 unstarted_open ended answers of requests cut = absurd of
 
 -- ---- what was pushed, and what was read

@@ -44,7 +44,7 @@ spent_of (seat.Live live) = None
 spent_of (seat.Spent spent) = Some spent
 
 -- each request that was taken is answered to its end, but for a last one that waits and that the kernel gave up
-abbrev pub AnswersTaken : (SeatState → Why → Type 0) → List Request → List Told → AnsweredSeat → Type 0
+abbrev pub AnswersTaken : (SeatState → SeatState → Why → Type 0) → List Request → List Told → AnsweredSeat → Type 0
 AnswersTaken ended taken answers (seat.None admission) = (taken ≡ []) × (answers ≡ [])
 AnswersTaken ended taken answers (seat.Live live) = Talked taken answers × (live.receipts ≡ receipts_of answers) × IsGranted live.receipts
 AnswersTaken ended taken answers (seat.Spent spent) = HasExited spent answers × IsCut taken answers None × SaidEnded ended spent ended_why.Lost

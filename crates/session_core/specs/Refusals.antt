@@ -14,7 +14,7 @@ use Rattle.session_core.specs.Answers.{receipts_of}
 use Rattle.request_pump.specs.Input.{Begins}
 use Rattle.session_core.specs.Served.{Serves, SessionState}
 use Rattle.session_core.specs.Talk.{Talked, Waits}
-use Rattle.system_lock.specs.Kernel.{Says}
+use Rattle.system_lock.specs.Kernel.{EndsBy, Says}
 
 -- a process ended, in the call that it waited in, for what this refusal tells
 abbrev pub EndTold : (Why → Type 0) → Refusal → Type 0
@@ -35,12 +35,13 @@ pub record CallRefused (refused : SeatState → Call → Refusal → Type 0) (ea
   pub receipts : seat.receipts ≡ receipts_of before
   pub said : refused seat call so
 
--- a kernel ended the process of such a seat for that in this call, which waits by these answers
-pub record WaitRefused (ended : SeatState → Why → Type 0) (earlier : List Request) (before : List Told) (call : Call) (so : Refusal) : Type 0 where
+-- the process of such a seat ended in this call, which waits by these answers, and a kernel said that it ended for that
+pub record WaitRefused (ended : SeatState → SeatState → Why → Type 0) (earlier : List Request) (before : List Told) (call : Call) (so : Refusal) : Type 0 where
   pub seat : SeatState
+  pub spent : SeatState
   pub waits : Waits earlier before call
   pub receipts : seat.receipts ≡ receipts_of before
-  pub said : EndTold (ended seat) so
+  pub said : EndTold (λ (reason : Why). EndsBy seat spent reason × ended seat spent reason) so
 
 -- a kernel refused this request so, after these requests and the answers before
 abbrev pub NextRefused : Says → List Request → List Told → Request → Refusal → Type 0

@@ -17,11 +17,11 @@ abbrev pub SaidUnopened : (Request → Refusal → Type 0) → Type 0
 SaidUnopened unopened = (request : Request) × unopened request refusal.RunFull
 
 -- a kernel said that the process of this seat ended so, and the seat was spent by that end
-abbrev pub SaidEnded : (SeatState → Why → Type 0) → SeatState → Why → Type 0
-SaidEnded ended spent reason = (seat : SeatState) × EndsBy seat spent reason × ended seat reason
+abbrev pub SaidEnded : (SeatState → SeatState → Why → Type 0) → SeatState → Why → Type 0
+SaidEnded ended spent reason = (seat : SeatState) × EndsBy seat spent reason × ended seat spent reason
 
 -- the same of the seat of a session, which there is
-abbrev pub SeatSaid : (SeatState → Why → Type 0) → Option SeatState → Why → Type 0
+abbrev pub SeatSaid : (SeatState → SeatState → Why → Type 0) → Option SeatState → Why → Type 0
 SeatSaid ended None reason = ⊥
 SeatSaid ended (Some spent) reason = SaidEnded ended spent reason
 
@@ -46,5 +46,5 @@ IsEndOfReads end.Ahead = Unit {0}
 IsEndOfReads other = ⊥
 
 -- a session with this seat ends so in a call that waits only where its kernel gave that call up
-abbrev pub CutSaid : (SeatState → Why → Type 0) → Option SeatState → List Told → End → Type 0
+abbrev pub CutSaid : (SeatState → SeatState → Why → Type 0) → Option SeatState → List Told → End → Type 0
 CutSaid ended seat answers is = IsEndOfReads is → (requests : List Request) → IsCut requests answers None → SeatSaid ended seat ended_why.Lost

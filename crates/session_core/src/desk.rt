@@ -27,10 +27,10 @@ use run_history::front::Front;
 use std::io::Write;
 use std::marker::{Brand, Model, PhantomData};
 use std::sync::Wait;
-use system_lock::doors::Marked;
 use system_lock::kernel::{AdmissionTo, KernelOf};
 use system_lock::run::Run;
 use system_lock::run_seat::RunSeat;
+use system_lock::watch::Marked;
 
 /// Which session it is: the end of its ring that gives requests, and what its writer held at the start.
 pub(crate) trait Naming {

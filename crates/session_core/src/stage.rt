@@ -82,7 +82,7 @@ pub(crate) enum Standing<S, P, A> {
     Left(LeftSession<P, A>),
 }
 
-/// Each of these for the seats of one book.
+/// Each of these for the seats of one run.
 pub(crate) type StageOf<L> = Stage<RunSeat<L>, AdmissionTo<L>>;
 
 pub(crate) type OverOf<L> = Over<RunSeat<L>, SpentRunSeat<L>, AdmissionTo<L>>;

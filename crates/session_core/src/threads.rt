@@ -24,9 +24,9 @@ use std::snapshot::Snapshot;
 use std::sync::{Arc, Mutex, Wait};
 use std::thread;
 use std::thread::{Promise, PromisedHandle, Threads};
-use system_lock::doors::Marked;
 use system_lock::kernel::KernelOf;
 use system_lock::run::Run;
+use system_lock::watch::Marked;
 
 /// What shows that the end of the reads was told: to the kernel too, where the session has a process. Only `ReadingTold::by` makes one.
 #[derive(Drop)]

@@ -5,7 +5,7 @@ ghost use Rattle.call_types.specs.declared.request.Request.TheVariants as reques
 ghost use Rattle.run_history.specs.Fronts.{Grows, Since};
 ghost use Rattle.session_core.specs.declared.stage.Stage.TheVariants as stage;
 ghost use Rattle.session_core.specs.Proved.Turns.{TakesUp, PutsFirst, PutsGivenUp, IsOne, WaitsOnce, GivesUp, TellsWhy, TurnSays, WaitSays, goes_on};
-ghost use Rattle.system_lock.specs.Kernel.{AsksForASeat, IsWanting, IsWhyFinished, FinishesBy, SaysEnded};
+ghost use Rattle.system_lock.specs.Kernel.{AsksForASeat, IsWanting, IsWhyFinished, FinishesBy, SaysEnded, itself};
 ghost use Rattle.session_core.specs.Proved.Saying.{TurnSaid};
 ghost use Rattle.session_core.specs.Refusals.{RefusalSaid};
 
@@ -140,7 +140,7 @@ fn finish_sent<Rt: Wait, W: Write, G: Gate, L: Run, K: KernelOf<L>>(
 ) -> FinishedIn<L>
     requires { output.now.unsent ≡ [] }
     ensures finishes { FinishesBy seat result }
-    ensures ended { Since front.new (λ h. SaysEnded (K.says h).ended seat result) }
+    ensures ended { Since front.new (λ h. SaysEnded itself (K.says h).ended seat result) }
     ensures grows { Grows front.old front.new }
 {
     let _output = output;

@@ -11,13 +11,13 @@ use call_types::request::Request;
 use record_book::seat::Receipt;
 use run_history::front::Front;
 use std::sync::Wait;
-use system_lock::doors::Marked;
 use system_lock::kernel::{
     AdmissionTo, Ended, EndedIn, Finished, FinishedIn, Kernel, KernelOf, NotOpenedIn, OpenedIn, Why,
 };
 use system_lock::one_book::{OneBook, Unlimited};
 use system_lock::run::Run;
 use system_lock::run_seat::{RunSeat, SpentRunSeat};
+use system_lock::watch::Marked;
 
 /// What it does not know.
 #[derive(Clone, Copy, Debug, PartialEq, Eq)]
@@ -106,7 +106,7 @@ impl<L: Run> Kernel<RunSeat<Unlimited<L>>, SpentRunSeat<Unlimited<L>>, Front<Unl
     ) -> FinishedIn<Unlimited<L>>
         ensures finishes { FinishesBy seat result }
         ensures grows { Grows front.old front.new }
-        ensures ended { Since front.new (λ h. SaysEnded (λ _ _. ⊤) seat result) }
+        ensures ended { Since front.new (λ h. SaysEnded itself (λ _ _ _. ⊤) seat result) }
     {
         match self.forgets {
             Forgets::WhoWaits => Finished::Ended(foreign(seat)),

@@ -23,7 +23,7 @@ use Rattle.posix_model.specs.Proved.Sound.{adds, ended, closes}
 use Rattle.posix_model.specs.Proved.Laws.{Counts, StepPlansProcesses}
 use Rattle.record_book.specs.Book.{world_now}
 use Rattle.system_lock.specs.System.{AreDistinct}
-use Rattle.system_lock.specs.Proved.Doors.{LiveAreFew}
+use Rattle.system_lock.specs.Proved.Watch.{LiveAreFew}
 use Rattle.system_lock.proofs.StirLaws.{neither}
 
 -- ---- of slots of which so many are full, different ones that are full are no more

@@ -12,4 +12,4 @@ pub mod StirEvents
 pub mod SleeperLaws
 pub mod DueLaws
 pub mod FewLaws
-pub mod DoorLaws
+pub mod WatchLaws

@@ -1,7 +1,8 @@
 -- What a seat owns in a history it owns in each that goes on from there, and with each record of its own it owns one more.
-use Rattle.std.proofs.Common.{◌≡◌, ◌∙◌, ℕ, ap, refl, sym, subst, arith, List, [], ◌∷◌, ◌++◌, append-nil, append_assoc, length-append, length, take, sum_by, Option, None, Some, Result, Ok, Err, All}
-use Rattle.std.proofs.lemmas.List.Elements.{All-nil, All-head, All-tail, All-weaker, All-push}
-use Rattle.std.proofs.lemmas.List.Sums.{sum_by-cons, sum_by_push}
+use Rattle.std.proofs.Common.{◌≡◌, ◌∙◌, ◌<◌, ◌+◌, ℕ, ap, refl, sym, subst, arith, List, [], ◌∷◌, ◌++◌, append-nil, append_assoc, length-append, length, get_or, take, sum_by, Option, None, Some, Result, Ok, Err, All, AllPairs}
+use Rattle.std.proofs.lemmas.List.Elements.{All-nil, All-head, All-tail, All-get_or, All-weaker, All-push}
+use Rattle.std.proofs.lemmas.List.Quantifiers.{all_pairs_push}
+use Rattle.std.proofs.lemmas.List.Sums.{fold_push, sum_by-cons, sum_by_push}
 use Rattle.std.proofs.Math.Seq.{take-append_seam}
 use Rattle.std.specs.Option.{option_map_or}
 use mathlib.Core.List.{IsPrefix}
@@ -19,12 +20,12 @@ use Rattle.posix_model.specs.declared.world.World.{World}
 use Rattle.posix_model.specs.History.{world_of}
 use Rattle.posix_model.specs.Turns.{took, gave, took_in, turn, total}
 use Rattle.record_book.specs.Seat.{Receipted, SeatState}
-use Rattle.record_book.specs.Book.{BookState, Records}
+use Rattle.record_book.specs.Book.{BookState, Receives, Records}
 use Rattle.record_book.specs.Counting.{CountsOwn, given_by, only_records}
 use Rattle.record_book.specs.Openings.{Opened, IsOpening}
 use Rattle.record_book.specs.declared.opening.Opened.TheVariants as opened
 use Rattle.run_history.specs.Fronts.{Grows}
-use Rattle.system_lock.specs.Owns.{StandsIn, taken_in, counted_of, OwnsIn, OwnsUnder}
+use Rattle.system_lock.specs.Owns.{StandsIn, taken_in, counted_of, seen_with, OwnsIn, OwnsUnder}
 use Rattle.system_lock.specs.declared.kernel.Why.{Why}
 use Rattle.system_lock.specs.declared.kernel.Why.TheVariants as why
 use Rattle.system_lock.specs.declared.acts.Tried.TheVariants as tried
@@ -65,7 +66,10 @@ counts_on bounds f h rs p all = ap (λ (n : ℕ). record { records = length rs; 
 
 owns_on : (bounds : Bounds) (f h : List Record) (s : SeatState) → IsPrefix f h → OwnsIn bounds f s → OwnsIn bounds h s
 owns_on bounds f h s p own = record {
+  actors = own.actors;
   stand = All-weaker (StandsIn f) (StandsIn h) (λ r. stands_on f h r p) s.receipts own.stand;
+  ascend = own.ascend;
+  seen = own.seen;
   counts = own.counts ∙ sym (counts_on bounds f h s.receipts p own.stand);
 }
 
@@ -85,11 +89,29 @@ same_counts a b c x y z p q r = rw p (rw q (rw r refl))
 next_stands : (h : List Record) (r : Receipted) → r.place ≡ length h → StandsIn (h ++ r.record_is ∷ []) r
 next_stands h r place = record { before = h; place_is = sym place; begins = itself_begins (h ++ r.record_is ∷ []) }
 
-one_more : (bounds : Bounds) (h : List Record) (s t : SeatState) (r : Receipted) → r.place ≡ length h → t.receipts ≡ s.receipts ++ r ∷ []
+-- a receipt whose record stands in a history has a place there
+stands_before : (h : List Record) (r : Receipted) → StandsIn h r → r.place < length h
+stands_before h r s =
+    let whole = length-append (s.before ++ r.record_is ∷ []) s.begins.0 in
+    let first = length-append s.before (r.record_is ∷ []) in
+    let at = s.place_is in
+    let all = ap length s.begins.1 in
+    omega (arith, whole, first, at, all)
+
+-- the receipt of the record that comes next is the last
+abbrev Later : Receipted → Receipted → Type 0
+Later x y = x.place < y.place
+
+ascends : (h : List Record) (rs : List Receipted) (r : Receipted) → r.place ≡ length h → All (StandsIn h) rs → AllPairs Later rs → AllPairs Later (rs ++ r ∷ [])
+ascends h rs r place stand ascend =
+    all_pairs_push Later rs r ascend
+    (λ k d lt. let before = stands_before h (get_or rs k d) (All-get_or (StandsIn h) rs k d lt stand) in omega (arith, place, before))
+
+one_more : (bounds : Bounds) (h : List Record) (s t : SeatState) (r : Receipted) → r.place ≡ length h → r.record_is.actor ≡ s.pid → Receives s t r
     → t.counted ≡ counted_more (took (world_of bounds h) r.record_is) (gave (world_of bounds h) r.record_is) s.counted
     → OwnsIn bounds h s → OwnsIn bounds (h ++ r.record_is ∷ []) t
 unfolding next_stands
-one_more bounds h s t r place receipts counts own =
+one_more bounds h s t r place actor receives counts own =
     let on = h ++ r.record_is ∷ [] in
     let goes : IsPrefix h on = (r.record_is ∷ [], refl) in
     let stands = next_stands h r place in
@@ -98,9 +120,13 @@ one_more bounds h s t r place receipts counts own =
     let taken = sum_by_push (taken_in bounds on) s.receipts r in
     let given = sum_by_push given_by s.receipts r in
     let longer = length-append s.receipts (r ∷ []) in
-    let own_counts = own.counts in
+    let receipts = receives.receipts in
     record {
+      actors = subst (λ (pid : ℕ). All (λ (x : Receipted). x.record_is.actor ≡ pid) t.receipts) (sym receives.pid)
+          (subst (All (λ (x : Receipted). x.record_is.actor ≡ s.pid)) (sym receipts) (All-push (λ (x : Receipted). x.record_is.actor ≡ s.pid) s.receipts r own.actors actor));
       stand = subst (All (StandsIn on)) (sym receipts) (All-push (StandsIn on) s.receipts r (All-weaker (StandsIn h) (StandsIn on) (λ x. stands_on h on x goes) s.receipts own.stand) stands);
+      ascend = subst (AllPairs Later) (sym receipts) (ascends h s.receipts r place own.stand own.ascend);
+      seen = receives.seen ∙ (sym (fold_push (λ (seen : ℕ) (x : Receipted). x.place + 1) 0 s.receipts r) ∙ ap seen_with (sym receipts));
       counts = counts ∙
           (ap (counted_more (took (world_of bounds h) r.record_is) (gave (world_of bounds h) r.record_is)) own.counts ∙
           (same_counts _ _ _ _ _ _ (omega (arith, longer)) (omega (arith, before, now, taken)) (omega (arith, given)) ∙ ap (counted_of bounds on) (sym receipts)));
@@ -109,7 +135,7 @@ one_more bounds h s t r place receipts counts own =
 pub owns_recorded : (limits : Option Limits) (old new : BookState) (s t : SeatState) (a : Act) (r : Receipted) → limits ≡ Some old.limits → OwnsUnder limits old.history s → Records old new s t a r → OwnsUnder limits new.history t
 owns_recorded limits old new s t a r is own h =
     let known : OwnsIn old.limits.bounds old.history s = subst (λ (l : Option Limits). OwnsUnder l old.history s) is own in
-    let more = one_more old.limits.bounds old.history s t r h.appends.place h.receives.receipts h.counts known in
+    let more = one_more old.limits.bounds old.history s t r h.appends.place h.appends.actor_is h.receives h.counts known in
     subst (λ (l : Option Limits). OwnsUnder l new.history t) (sym is) (subst (λ (l : List Record). OwnsIn old.limits.bounds l t) (sym h.appends.history) more)
 
 -- ---- the events under the lock
@@ -123,12 +149,19 @@ owns_first : (limits : Option Limits) (old new : BookState) (process : ℕ) (a :
 owns_first limits old new process a s r is none counts opens =
     let w = world_of old.limits.bounds old.history in
     let bare : SeatState = record { pid = process; seen = 0; receipts = []; counted = only_records 0 } in
-    let nothing : OwnsIn old.limits.bounds old.history bare = record { stand = All-nil (StandsIn old.history); counts = refl } in
+    let nothing : OwnsIn old.limits.bounds old.history bare = record {
+      actors = All-nil (λ (x : Receipted). x.record_is.actor ≡ process);
+      stand = All-nil (StandsIn old.history);
+      ascend = λ i j d lt within. absurd (omega (arith, within));
+      seen = refl;
+      counts = refl;
+    } in
     let all = subst (λ (x : SeatState). CountsOwn x.counted x.receipts) opens.seat counts in
     let takes = took_first w r.record_is a opens.appends.act_is none in
     let gives : given_by r ≡ 0 = (let sums = all.given_are in omega (arith, sums)) in
     let counted : s.counted ≡ counted_more (took w r.record_is) (gave w r.record_is) (only_records 0) = ap (λ (x : SeatState). x.counted) opens.seat ∙ same_counts _ _ _ _ _ _ refl (omega (arith, takes)) (omega (arith, gives)) in
-    let more = one_more old.limits.bounds old.history bare s r opens.appends.place (ap (λ (x : SeatState). x.receipts) opens.seat) counted nothing in
+    let receives : Receives bare s r = record { pid = ap (λ (x : SeatState). x.pid) opens.seat; seen = ap (λ (x : SeatState). x.seen) opens.seat; receipts = ap (λ (x : SeatState). x.receipts) opens.seat } in
+    let more = one_more old.limits.bounds old.history bare s r opens.appends.place opens.appends.actor_is receives counted nothing in
     subst (λ (l : Option Limits). OwnsUnder l new.history s) (sym is) (subst (λ (l : List Record). OwnsIn old.limits.bounds l s) (sym opens.appends.history) more)
 
 pub owns_opened : (limits : Option Limits) (old new : BookState) (asked : Request) (o : Opened) → limits ≡ Some old.limits → CountsOwn (opened_seat o).counted (opened_seat o).receipts → OpensIn old new asked (Ok o) → OwnsUnder limits new.history (opened_seat o)

@@ -75,16 +75,16 @@ IsWanting refusal.NoMemory = Unit {0}
 IsWanting refusal.RunFull = Unit {0}
 IsWanting other = ⊥
 
--- what a kernel says where it records nothing: that it refused an opening so, that it refused a call of a seat so, and that the process
--- of a seat has ended so
+-- what a kernel says that no record tells: that it refused an opening so, that it refused a call of a seat so, and that the process of a
+-- seat, which was spent by that, has ended so
 pub record Says : Type 1 where
   pub not_opened : Request → Refusal → Type 0
   pub refused : SeatState → Call → Refusal → Type 0
-  pub ended : SeatState → Why → Type 0
+  pub ended : SeatState → SeatState → Why → Type 0
 
 -- what a kernel says of which nothing more is known: anything
 abbrev pub anything : Says
-anything = record { not_opened = λ request told. ⊤; refused = λ seat call told. ⊤; ended = λ seat reason. ⊤ }
+anything = record { not_opened = λ request told. ⊤; refused = λ seat call told. ⊤; ended = λ seat spent reason. ⊤ }
 
 -- an opening is recorded: with a seat, where it is no error; else with the one receipt of that error
 abbrev pub IsOpenedAs : {S P : Type 0} → (S → SeatState) → (P → SeatState) → Request → OpenedOf S P → Type 0
@@ -134,9 +134,9 @@ abbrev pub FinishesBy : SeatState → Finished → Type 0
 FinishesBy old finished = FinishesAs itself itself old finished
 
 -- where a process has ended in the call that it waited in, the kernel says why
-abbrev pub SaysEnded : {S P : Type 0} → (SeatState → Why → Type 0) → SeatState → FinishedOf S P → Type 0
-SaysEnded says old (finished.Resumed seat receipt) = Unit {0}
-SaysEnded says old (finished.Ended ended) = says old ended.why
+abbrev pub SaysEnded : {S P : Type 0} → (P → SeatState) → (SeatState → SeatState → Why → Type 0) → SeatState → FinishedOf S P → Type 0
+SaysEnded as_spent says old (finished.Resumed seat receipt) = Unit {0}
+SaysEnded as_spent says old (finished.Ended ended) = says old (as_spent ended.seat) ended.why
 
 -- a process that is hung up ends
 abbrev pub HangsUpAs : {P : Type 0} → (P → SeatState) → SeatState → EndedOf P → Type 0

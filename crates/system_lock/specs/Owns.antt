@@ -1,5 +1,5 @@
 -- What a seat owns in the history of its run (own).
-use Rattle.std.specs.Prelude.{◌≡◌, ℕ, List, [], ◌∷◌, ◌++◌, Option, IfSome, All, length, take, sum_by}
+use Rattle.std.specs.Prelude.{◌≡◌, ◌<◌, ℕ, ◌+◌, List, [], ◌∷◌, ◌++◌, Option, IfSome, All, AllPairs, length, take, fold, sum_by}
 use mathlib.Core.List.{IsPrefix}
 use Rattle.call_types.specs.declared.act.Record.{Record}
 use Rattle.call_types.specs.declared.limits.Limits.{Limits}
@@ -24,9 +24,17 @@ taken_in bounds h r = took (world_of bounds (take r.place h)) r.record_is
 abbrev pub counted_of : Bounds → List Record → List Receipted → Counted
 counted_of bounds h receipts = record { records = length receipts; bytes_in = sum_by (taken_in bounds h) receipts; bytes_out = sum_by given_by receipts }
 
--- the records of a seat's receipts stand in a history, each at its place, and the seat counts just these
+-- who has these receipts has seen all records up to the last of them
+abbrev pub seen_with : List Receipted → ℕ
+seen_with receipts = fold (λ (seen : ℕ) (r : Receipted). r.place + 1) 0 receipts
+
+-- the records of a seat's receipts are of its process and stand in a history, each at its place, one after another; and the seat has seen
+-- all records up to the last of these, and counts just these
 pub record OwnsIn (bounds : Bounds) (h : List Record) (s : SeatState) : Type 0 where
+  pub actors : All (λ (r : Receipted). r.record_is.actor ≡ s.pid) s.receipts
   pub stand : All (StandsIn h) s.receipts
+  pub ascend : AllPairs (λ (x y : Receipted). x.place < y.place) s.receipts
+  pub seen : s.seen ≡ seen_with s.receipts
   pub counts : s.counted ≡ counted_of bounds h s.receipts
 
 -- the same in a run with these limits, where they are known

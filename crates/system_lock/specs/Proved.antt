@@ -2,6 +2,6 @@ pub mod Acts
 pub mod Events
 pub mod Stirred
 pub mod Sleepers
-pub mod Doors
+pub mod Watch
 pub mod Reasons
 pub mod Sleeping

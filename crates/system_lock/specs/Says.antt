@@ -1,5 +1,5 @@
 -- What the lock of a run says of ends and of refusals (own).
-use Rattle.std.specs.Prelude.{◌≡◌, true, false, is_some, List, [], Option, None, Some}
+use Rattle.std.specs.Prelude.{◌≡◌, ◌+◌, true, false, is_some, List, [], length, Option, None, Some}
 use mathlib.Core.List.{IsPrefix}
 use Rattle.call_types.specs.declared.act.Record.{Record}
 use Rattle.call_types.specs.declared.call.Call.{Call}
@@ -56,9 +56,14 @@ IsNotOpened limits h request told = (b : BookState) × StandsUnder limits b × I
 abbrev pub IsRefused : Option Limits → List Record → SeatState → Call → Refusal → Type 0
 IsRefused limits h s call told = (b : BookState) × HasGiven limits s b × IsPrefix b.history h × IsDue (start_refusal b s call) told
 
--- a process ends: for a reason that it may have in some such book
-abbrev pub IsEnded : Option Limits → List Record → SeatState → Why → Type 0
-IsEnded limits h s reason = (b : BookState) × HasGiven limits s b × IsPrefix b.history h × IsEndIn b s reason
+-- where an exit was recorded, by which the seat was spent, it is the record that comes next in this book
+abbrev pub ExitsNext : BookState → SeatState → Why → Type 0
+ExitsNext b spent why.Foreign = Unit {0}
+ExitsNext b spent other = spent.seen ≡ length b.history + 1
+
+-- a process ends: for a reason that it may have in some such book, and its exit comes next there
+abbrev pub IsEnded : Option Limits → List Record → SeatState → SeatState → Why → Type 0
+IsEnded limits h s spent reason = (b : BookState) × HasGiven limits s b × IsPrefix b.history h × IsEndIn b s reason × ExitsNext b spent reason
 
 -- what the lock of a run with these limits and this history says
 abbrev pub said_under : Option Limits → List Record → Says

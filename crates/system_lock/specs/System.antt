@@ -17,14 +17,14 @@ pub record SystemState : Type 0 where
   pub asleep_are : List ℕ
   pub lost_are : List ℕ
 
--- what shows that it was told of a process that its connection is lost: which process, and whether it was marked at the doors
+-- what shows that it was told of a process that its connection is lost: which process, and whether the watch marked it
 pub record MarkState : Type 0 where
   pub process_is : ℕ
-  pub at_doors : Bool
+  pub by_watch : Bool
 
--- a process was marked at the doors, or had ended
-abbrev pub marked_at_doors : ℕ → MarkState
-marked_at_doors process = record { process_is = process; at_doors = true }
+-- the watch marked a process, or it had ended
+abbrev pub marked_by_watch : ℕ → MarkState
+marked_by_watch process = record { process_is = process; by_watch = true }
 
 -- whether a process is live
 abbrev pub is_live_in : BookState → ℕ → Bool

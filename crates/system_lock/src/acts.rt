@@ -78,13 +78,13 @@ pub(crate) enum Tried<S, P> {
 }
 
 /// These of the seats of one book.
-pub(crate) type TriedIn<L> = Tried<Seat<L>, SpentSeat<L>>;
+pub(crate) type TriedBy<L> = Tried<Seat<L>, SpentSeat<L>>;
 
 pub(crate) type EndedBy<L> = Ended<SpentSeat<L>>;
 
 /// Takes up the call that a process waits in, if it is ready; where that is refused, the process ends.
 #[tactic(auto, using(crate::proofs::DueLaws::memory_due))]
-pub(crate) fn resume<L: Ledgers>(book: &mut Book<L>, alloc: Global, seat: Seat<L>) -> TriedIn<L>
+pub(crate) fn resume<L: Ledgers>(book: &mut Book<L>, alloc: Global, seat: Seat<L>) -> TriedBy<L>
     ensures tries { TriesBy seat result }
     ensures event { TriesIn book.old book.new seat result }
     ensures still { StillIsDue book.old seat result }

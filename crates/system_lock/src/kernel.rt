@@ -1,8 +1,8 @@
 //! What a session asks a kernel for.
 
-use crate::doors::Marked;
 use crate::run::Run;
 use crate::run_seat::{RunSeat, SpentRunSeat};
+use crate::watch::Marked;
 use call_types::call::Call;
 use call_types::refusal::Refusal;
 use call_types::request::Request;
@@ -92,7 +92,7 @@ pub trait Kernel<S: AsSeat, P: AsSeat, F: AsFront> {
     ghost use Rattle.system_lock.specs.Kernel.{Says, AsksForASeat, OpensAs, CallsBy, FinishesAs, HangsUpAs, SaysEnded};
     ghost use Rattle.system_lock.specs.System.{MarkState};
 
-    // What the kernel says where it records nothing, in a run whose history has these records at first. Where the kernel is not known, only
+    // What the kernel says that no record tells, in a run whose history has these records at first. Where the kernel is not known, only
     // `open` tells that an opening was refused, only `call` that a call was, and only `finish` and `hang_up` that a process has ended.
     ghost says: { List Record → Says };
 
@@ -132,13 +132,13 @@ pub trait Kernel<S: AsSeat, P: AsSeat, F: AsFront> {
     fn finish<R: Wait>(&self, rt: &R, front: &mut F, seat: S) -> Finished<S, P>
         ensures finishes { FinishesAs S.as_seat P.as_seat (S.as_seat seat) result }
         ensures grows { Grows (F.as_front front.old) (F.as_front front.new) }
-        ensures ended { Since (F.as_front front.new) (λ h. SaysEnded (says h).ended (S.as_seat seat) result) };
+        ensures ended { Since (F.as_front front.new) (λ h. SaysEnded P.as_seat (says h).ended (S.as_seat seat) result) };
 
     /// Records the exit of the seat's process. It waits for the lock alone.
     fn hang_up<R: Wait>(&self, rt: &R, front: &mut F, seat: S) -> Ended<P>
         ensures hangs_up { HangsUpAs P.as_seat (S.as_seat seat) result }
         ensures grows { Grows (F.as_front front.old) (F.as_front front.new) }
-        ensures ended { Since (F.as_front front.new) (λ h. (says h).ended (S.as_seat seat) result.why) };
+        ensures ended { Since (F.as_front front.new) (λ h. (says h).ended (S.as_seat seat) (P.as_seat result.seat) result.why) };
 
     /// Tells that the connection of a process is lost: a call that it waits in, now or later, is given up where it is not ready. Nothing
     /// is recorded here. It takes no memory, and waits for the lock alone. What it gives shows that this was told.

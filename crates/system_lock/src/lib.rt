@@ -3,7 +3,6 @@
 
 mod acts;
 mod bells;
-pub mod doors;
 pub mod kernel;
 pub mod lock;
 mod lost;
@@ -15,3 +14,4 @@ mod sleepers;
 mod stirred;
 pub mod system;
 mod waking;
+pub mod watch;

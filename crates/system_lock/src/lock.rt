@@ -8,7 +8,6 @@ ghost use Rattle.system_lock.specs.Says.{IsEnded, IsNotOpened};
 
 use crate::acts::Tried;
 use crate::bells::Bells;
-use crate::doors::Marked;
 use crate::kernel::{
     Admission, AdmissionTo, EndedIn, Finished, FinishedIn, Kernel, KernelOf, NotOpened,
     NotOpenedIn, OpenedIn,
@@ -16,6 +15,7 @@ use crate::kernel::{
 use crate::run::{NewRun, Run};
 use crate::run_seat::{RunSeat, SpentRunSeat, opened_in};
 use crate::system::System;
+use crate::watch::Marked;
 use call_types::call::Call;
 use call_types::limits::Limits;
 use call_types::refusal::Refusal;
@@ -73,11 +73,11 @@ impl<L: Run> SystemLock<L> {
 impl<L: Run> Kernel<RunSeat<L>, SpentRunSeat<L>, Front<L>> for SystemLock<L> {
     ghost use Rattle.std.specs.Prelude.{◌≡◌};
     ghost use Rattle.system_lock.specs.Says.{said_under};
-    ghost use Rattle.system_lock.specs.System.{marked_at_doors};
+    ghost use Rattle.system_lock.specs.System.{marked_by_watch};
 
     ghost says = { said_under L.limits };
 
-    ghost marks = { λ mark process. mark ≡ marked_at_doors process };
+    ghost marks = { λ mark process. mark ≡ marked_by_watch process };
 
     fn open<R: Wait>(
         &self,
@@ -116,7 +116,7 @@ impl<L: Run> Kernel<RunSeat<L>, SpentRunSeat<L>, Front<L>> for SystemLock<L> {
     fn finish<R: Wait>(&self, rt: &R, front: &mut Front<L>, seat: RunSeat<L>) -> FinishedIn<L>
         ensures finishes { FinishesBy seat result }
         ensures grows { Grows front.old front.new }
-        ensures ended { Since front.new (λ h. SaysEnded (IsEnded L.limits h) seat result) }
+        ensures ended { Since front.new (λ h. SaysEnded itself (IsEnded L.limits h) seat result) }
     {
         let process = seat.pid();
         let mut seat = seat;
@@ -138,7 +138,7 @@ impl<L: Run> Kernel<RunSeat<L>, SpentRunSeat<L>, Front<L>> for SystemLock<L> {
     fn hang_up<R: Wait>(&self, rt: &R, front: &mut Front<L>, seat: RunSeat<L>) -> EndedIn<L>
         ensures hangs_up { HangsUpBy seat result }
         ensures grows { Grows front.old front.new }
-        ensures ended { Since front.new (λ h. IsEnded L.limits h seat result.why) }
+        ensures ended { Since front.new (λ h. IsEnded L.limits h seat result.seat result.why) }
     {
         let mut system = self.system.lock(rt);
         let ended = seat.hang_up(rt, &self.bells, &mut system);

@@ -6,13 +6,13 @@ ghost use Rattle.system_lock.specs.Kernel.{FinishesBy, HangsUpBy, AsksForASeat, 
 
 use crate::acts;
 use crate::acts::{EndedBy, Tried};
-use crate::doors::Marked;
 use crate::kernel::{
     Admission, AdmissionTo, Ended, EndedIn, Finished, FinishedIn, Kernel, KernelOf, NotOpened,
     NotOpenedIn, OpenedIn, Why,
 };
 use crate::run::Run;
 use crate::run_seat::{InRun, RunSeat, SpentRunSeat, opened_in};
+use crate::watch::Marked;
 use byte_ledger::ledgers::Ledgers;
 use byte_ledger::tallies::Sums;
 use call_types::act::ScriptAct;
@@ -27,7 +27,7 @@ use std::marker::PhantomData;
 use std::mem;
 use std::sync::{Mutex, Wait};
 
-/// A run of which no limits are known, so nothing is owed of its history; its ledgers are those of another.
+/// A run of which no limits are known, so nothing is said of its history; its ledgers are those of another run.
 pub struct Unlimited<L: Run> {
     run: PhantomData<L>,
 }
@@ -166,7 +166,7 @@ impl<L: Run> Kernel<RunSeat<Unlimited<L>>, SpentRunSeat<Unlimited<L>>, Front<Unl
     ) -> FinishedIn<Unlimited<L>>
         ensures finishes { FinishesBy seat result }
         ensures grows { Grows _front.old _front.new }
-        ensures ended { Since _front.new (λ h. SaysEnded (λ _ _. ⊤) seat result) }
+        ensures ended { Since _front.new (λ h. SaysEnded itself (λ _ _ _. ⊤) seat result) }
     {
         let mut held = self.held.lock(rt);
         let InRun { seat, front } = seat;

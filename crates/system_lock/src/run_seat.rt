@@ -1,14 +1,13 @@
 //! Seats of processes whose receipts stand in the history of their run.
 
-ghost use Rattle.std.specs.Prelude.{◌≡◌, Ok, IfErr};
-ghost use Rattle.call_types.specs.declared.request.Request.{Request};
+ghost use Rattle.std.specs.Prelude.{◌≡◌, IfErr};
 ghost use Rattle.record_book.specs.Counting.{CountsOwn};
 ghost use Rattle.run_history.specs.Fronts.{Grows, Since};
 ghost use Rattle.system_lock.specs.Kernel.{CallsBy, HangsUpBy};
 ghost use Rattle.system_lock.specs.Owns.{OwnsUnder};
 ghost use Rattle.system_lock.specs.Says.{IsEnded, IsRefused};
 ghost use Rattle.system_lock.specs.Proved.Acts.{TriesBy, SaysOfTry};
-ghost use Rattle.system_lock.specs.Proved.Events.{opened_seat};
+ghost use Rattle.system_lock.specs.Proved.Events.{CallsIn, ExitIsDue, ExitsIn, GivesUpTheLost, IsLeftWaiting, TriesIn, opened_seat};
 
 use crate::acts::Tried;
 use crate::bells::Bells;
@@ -26,8 +25,8 @@ use std::alloc::Global;
 use std::marker::Model;
 use std::sync::Wait;
 
-/// A seat of the kind `S`, and a front of the history of its run. The records of its receipts stand there, each at its place, and where
-/// the type of the run names its limits, the seat counts just these. Contracts see the seat.
+/// A seat of the kind `S`, and a front of the history of its run. Where the type of the run names its limits, the records of the seat's
+/// receipts stand in the front, each at its place, and the seat counts just these. Contracts see the seat.
 #[derive(Drop)]
 pub struct InRun<S: AsSeat, L: Run> {
     pub(crate) seat: S,
@@ -55,7 +54,7 @@ pub type RunSeat<L> = InRun<Seat<L>, L>;
 pub type SpentRunSeat<L> = InRun<SpentSeat<L>, L>;
 
 impl<S: AsSeat, L: Run> InRun<S, L> {
-    /// Adds to a front what is known here of the history, which has the records of all receipts.
+    /// Adds to a front what is known here of the history: where the limits of the run are known, the records of all receipts.
     pub fn tell(&self, front: &mut Front<L>)
         ensures grows { Grows front.old front.new }
         ensures owns { Since front.new (λ h. OwnsUnder L.limits h self.now) }
@@ -90,6 +89,7 @@ impl<L: Run> RunSeat<L> {
         call: Call,
     ) -> Result<Receipt, Refusal>
         ensures calls { CallsBy self.old self.new call result }
+        ensures event { CallsIn system.old.book_is system.new.book_is self.old self.new call result }
         ensures refused { Since system.new.book_is.history (λ h. IfErr result (λ refusal. IsRefused L.limits h self.old call refusal)) }
     {
         system.has_all_of(rt, &self.front);
@@ -108,6 +108,9 @@ impl<L: Run> RunSeat<L> {
         system: &mut System<L>,
     ) -> Tried<RunSeat<L>, SpentRunSeat<L>>
         ensures tries { TriesBy self result }
+        ensures event { TriesIn system.old.book_is system.new.book_is self result }
+        ensures given_up { GivesUpTheLost system.old.lost_are self result }
+        ensures still { IsLeftWaiting system.old system.new self result }
         ensures ended { Since system.new.book_is.history (λ h. SaysOfTry (IsEnded L.limits h) self result) }
     {
         system.has_all_of(rt, &self.front);
@@ -142,7 +145,9 @@ impl<L: Run> RunSeat<L> {
         system: &mut System<L>,
     ) -> EndedIn<L>
         ensures hangs_up { HangsUpBy self result }
-        ensures ended { Since system.new.book_is.history (λ h. IsEnded L.limits h self result.why) }
+        ensures event { ExitsIn system.old.book_is system.new.book_is self result.seat result.why }
+        ensures due { ExitIsDue system.old.book_is self result.why }
+        ensures ended { Since system.new.book_is.history (λ h. IsEnded L.limits h self result.seat result.why) }
     {
         system.has_all_of(rt, &self.front);
         let InRun { seat, front: _ } = self;
@@ -195,7 +200,7 @@ impl<L: Run> SpentRunSeat<L> {
     }
 }
 
-/// What an opening gives, with a front that has its record.
+/// What an opening gives, with this front, which has its record where the limits of the run are known.
 pub(crate) fn opened_in<L: Run>(opened: opening::OpenedIn<L>, front: &Front<L>) -> OpenedIn<L>
     requires owns { OwnsUnder L.limits front.now (opened_seat opened) }
     ensures { result ≡ opened }

@@ -15,20 +15,20 @@ ghost use Rattle.system_lock.specs.Proved.Reasons.{OpensBy, IsReason, EndsByReas
 ghost use Rattle.system_lock.specs.Proved.Acts.{TriesBy};
 ghost use Rattle.system_lock.specs.Owns.{OwnsUnder};
 ghost use Rattle.system_lock.specs.Says.{StandsUnder};
-ghost use Rattle.system_lock.specs.System.{is_live_in, is_among, marked_at_doors, AreDistinct, AreLive, AreUnmarked};
+ghost use Rattle.system_lock.specs.System.{is_live_in, is_among, marked_by_watch, AreDistinct, AreLive, AreUnmarked};
 ghost use Rattle.system_lock.specs.Proved.Sleepers.{pipe_in};
-ghost use Rattle.system_lock.specs.Proved.Doors.{lost_with, asleep_without};
+ghost use Rattle.system_lock.specs.Proved.Watch.{lost_with, asleep_without};
 ghost use Rattle.system_lock.specs.Proved.Events.{OpensIn, CallsIn, ExitsIn, ExitIsDue, TriesIn, GivesUpTheLost, IsLeftWaiting, opened_seat, still_asleep, still_lost, with_sleeper};
 ghost use Rattle.record_book.specs.Book.{new_book};
 
 use crate::acts;
-use crate::acts::{EndedBy, Tried, TriedIn};
+use crate::acts::{EndedBy, Tried, TriedBy};
 use crate::bells::Bells;
-use crate::doors::{Doors, Marked};
 use crate::kernel::Why;
 use crate::past::Past;
 use crate::run::{NewRun, Run};
 use crate::stirred::{Stirred, events_spare, opener, pipe_waited};
+use crate::watch::{Marked, Watch};
 use call_types::call::Call;
 use call_types::limits::Limits;
 use call_types::refusal::Refusal;
@@ -51,19 +51,19 @@ use trace_ring::trace_ring::TraceEnd;
 pub struct System<L: Run> {
     book: Book<L>,
     past: Past<L>,
-    doors: Doors,
+    watch: Watch,
 }
 
 impl<L: Run> Model for System<L> {
     ghost use Rattle.std.specs.Prelude.{◌≡◌, [], Some, true};
     ghost use Rattle.system_lock.specs.System.{SystemState};
-    ghost use Rattle.system_lock.specs.Proved.Doors.{DoorsSound};
+    ghost use Rattle.system_lock.specs.Proved.Watch.{WatchSound};
 
     ghost Value = { SystemState };
 
-    ghost view = { λ s. record { book_is = s.book; asleep_are = s.doors.sleepers.asleep.items; lost_are = s.doors.lost.processes.items } };
+    ghost view = { λ s. record { book_is = s.book; asleep_are = s.watch.sleepers.asleep.items; lost_are = s.watch.lost.processes.items } };
 
-    ghost invariant = { λ s. DoorsSound s.book s.doors × (L.limits ≡ Some s.book.limits) × (s.book.house ≡ Some []) × (s.book.is_traced ≡ true) × (s.past ≡ s.book.history) };
+    ghost invariant = { λ s. WatchSound s.book s.watch × (L.limits ≡ Some s.book.limits) × (s.book.house ≡ Some []) × (s.book.is_traced ≡ true) × (s.past ≡ s.book.history) };
 }
 
 /// Adds the record of an opening to those before it, if there is one.
@@ -114,13 +114,13 @@ impl<L: Run> System<L> {
         ensures system { IfOk result (λ pair. pair.0 ≡ record { book_is = record (new_book limits) { is_traced = true }; asleep_are = []; lost_are = [] }) }
         ensures trace { IfOk result (λ pair. received pair.1 ≡ []) }
     {
-        let doors = Doors::new(alloc)?;
+        let watch = Watch::new(alloc)?;
         let NewRun { blanks, begun } = run;
         let mut book = Book::new(alloc, limits, blanks)?;
         match book.trace_end() {
             Some(trace) => {
                 let past = Past::new(begun);
-                Ok((System { book, past, doors }, trace))
+                Ok((System { book, past, watch }, trace))
             }
             None => unreachable!(),
         }
@@ -134,7 +134,7 @@ impl<L: Run> System<L> {
         ensures live { AreLive self.now.book_is result.now }
         ensures distinct { AreDistinct result.now }
     {
-        self.doors.sleepers.asleep.as_slice()
+        self.watch.sleepers.asleep.as_slice()
     }
 
     /// The processes whose connections are lost, in the order in which they were; they are live.
@@ -143,7 +143,7 @@ impl<L: Run> System<L> {
         ensures live { AreLive self.now.book_is result.now }
         ensures distinct { AreDistinct result.now }
     {
-        self.doors.lost.processes.as_slice()
+        self.watch.lost.processes.as_slice()
     }
 
     /// The front of the history that has the records of the book, and no more.
@@ -181,7 +181,7 @@ impl<L: Run> System<L> {
 
     /// Whether a process sleeps.
     pub(crate) fn sleeps(&self, process: u32) -> bool {
-        self.doors.sleepers.has(process)
+        self.watch.sleepers.has(process)
     }
 
     /// Opens a process.
@@ -206,8 +206,8 @@ impl<L: Run> System<L> {
         let process = opener(&self.book, &request);
         let opened = acts::open(&mut self.book, alloc, request);
         add_opening(rt, &mut self.past, &opened);
-        self.doors
-            .settle(&self.book, bells, Stirred::Anybody { process });
+        self.watch
+            .wake_stirred(&self.book, bells, Stirred::Anybody { process });
         opened
     }
 
@@ -233,7 +233,8 @@ impl<L: Run> System<L> {
         let stirred = Stirred::by(self.book.machine(), seat.pid(), &call);
         let told = acts::call(&mut self.book, alloc, seat, call);
         add_call(rt, &mut self.past, &told);
-        self.doors.settle(&self.book, bells, stirred.told(&told));
+        self.watch
+            .wake_stirred(&self.book, bells, stirred.told(&told));
         told
     }
 
@@ -244,7 +245,7 @@ impl<L: Run> System<L> {
         bells: &Bells,
         seat: Seat<L>,
         pipe: Option<usize>,
-    ) -> TriedIn<L>
+    ) -> TriedBy<L>
         requires not_refused { resume_refusal self.old.book_is seat ≡ None }
         requires not_ready { is_ready_in self.old.book_is seat.pid ≡ false }
         requires its_pipe { pipe ≡ pipe_in self.old.book_is seat.pid }
@@ -257,10 +258,10 @@ impl<L: Run> System<L> {
         ensures lost { self.new.lost_are ≡ still_lost self.new.book_is self.old.lost_are }
     {
         let process = seat.pid();
-        if self.doors.lost.has(process) {
+        if self.watch.lost.has(process) {
             return Tried::Ended(self.exit(rt, bells, seat, Why::Lost));
         }
-        self.doors.fall_asleep(&self.book, process, pipe);
+        self.watch.fall_asleep(&self.book, process, pipe);
         Tried::Still(seat)
     }
 
@@ -272,7 +273,7 @@ impl<L: Run> System<L> {
         alloc: Global,
         bells: &Bells,
         seat: Seat<L>,
-    ) -> TriedIn<L>
+    ) -> TriedBy<L>
         ensures tries { TriesBy seat result }
         ensures event { TriesIn self.old.book_is self.new.book_is seat result }
         ensures grows { Grows self.old.book_is.history self.new.book_is.history }
@@ -292,13 +293,13 @@ impl<L: Run> System<L> {
             Tried::Resumed { seat, receipt } => {
                 self.past.add(rt, receipt.record());
                 let stirred = Stirred::at(process, pipe);
-                self.doors.settle(&self.book, bells, stirred);
+                self.watch.wake_stirred(&self.book, bells, stirred);
                 Tried::Resumed { seat, receipt }
             }
             Tried::Ended(ended) => {
                 add_exit(rt, &mut self.past, &ended);
-                self.doors
-                    .settle(&self.book, bells, Stirred::Anybody { process });
+                self.watch
+                    .wake_stirred(&self.book, bells, Stirred::Anybody { process });
                 Tried::Ended(ended)
             }
         }
@@ -319,8 +320,8 @@ impl<L: Run> System<L> {
         let process = seat.pid();
         let ended = acts::exit(&mut self.book, seat, reason);
         add_exit(rt, &mut self.past, &ended);
-        self.doors
-            .settle(&self.book, bells, Stirred::Anybody { process });
+        self.watch
+            .wake_stirred(&self.book, bells, Stirred::Anybody { process });
         ended
     }
 
@@ -345,8 +346,8 @@ impl<L: Run> System<L> {
         ensures marked { is_live_in self.old.book_is process ≡ true → is_among self.new.lost_are process ≡ true }
         ensures lost { self.new.lost_are ≡ lost_with self.old.book_is self.old.lost_are process }
         ensures asleep { self.new.asleep_are ≡ asleep_without self.old.book_is self.old.lost_are self.old.asleep_are process }
-        ensures its { result ≡ marked_at_doors process }
+        ensures its { result ≡ marked_by_watch process }
     {
-        self.doors.give_up(&self.book, bells, process)
+        self.watch.give_up(&self.book, bells, process)
     }
 }

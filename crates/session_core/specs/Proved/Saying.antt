@@ -23,7 +23,7 @@ CauseSaid unopened why.NoMemory = Unit {0}
 CauseSaid unopened why.Ahead = Unit {0}
 
 -- the process of this seat ended in the call that it waited in: a kernel said so. Memory may run out for the answer that the run is full
-abbrev pub CauseEndedSaid : (SeatState → Why → Type 0) → SeatState → LeaveCause → Type 0
+abbrev pub CauseEndedSaid : (SeatState → SeatState → Why → Type 0) → SeatState → LeaveCause → Type 0
 CauseEndedSaid ended seat why.Closed = ⊥
 CauseEndedSaid ended seat why.ReadFault = ⊥
 CauseEndedSaid ended seat why.Malformed = ⊥

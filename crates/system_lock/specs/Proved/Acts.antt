@@ -19,7 +19,7 @@ TriesBy old (tried.Still seat) = seat ≡ old
 TriesBy old (tried.Ended ended) = EndsBy old ended.seat ended.why × IsWhyFinished ended.why
 
 -- where a try ends the process, this is said of why
-abbrev pub SaysOfTry : (SeatState → Why → Type 0) → SeatState → Tried → Type 0
+abbrev pub SaysOfTry : (SeatState → SeatState → Why → Type 0) → SeatState → Tried → Type 0
 SaysOfTry says old (tried.Resumed seat receipt) = Unit {0}
 SaysOfTry says old (tried.Still seat) = Unit {0}
-SaysOfTry says old (tried.Ended ended) = says old ended.why
+SaysOfTry says old (tried.Ended ended) = says old ended.seat ended.why

@@ -53,7 +53,7 @@ returns-in-Err-clause-refusals g c h p base handled call w are =
 
 pub returns-in-Ended-clause-refusals : goal.returns-in-Ended-clause-refusals
 returns-in-Ended-clause-refusals g c h p base handled call w are =
-    ended_refused (g.K.Kernel.says h) base handled call c.args.seat c.in-Ended.ended.seat c.in-Ended.ended.why c.flush.new.self c.end_given_up.new.output c.end_given_up.result c.end_given_up.ensures.tells (c.in-Ended.ensures.ended h p)
+    ended_refused (g.K.Kernel.says h) base handled call c.args.seat c.in-Ended.ended.seat c.in-Ended.ended.why c.flush.new.self c.end_given_up.new.output c.end_given_up.result c.end_given_up.ensures.tells c.in-Ended.ensures.finishes.0 (c.in-Ended.ensures.ended h p)
     (laws.still_waits base handled call c.args.seat _ _ c.in-Ok.ensures.ok w)
     (kept_said (RefusalSaid (g.K.Kernel.says h) (handled ++ request.Call call ∷ [])) c.args.output.now.answers c.flush.new.self.answers c.in-Ok.ensures.ok.flushes.answers are)
 

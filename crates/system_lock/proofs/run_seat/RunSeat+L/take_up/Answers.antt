@@ -28,5 +28,5 @@ returns-in-Ended-clause-ended g c h p =
     let limits = g.L.Ledgers.limits in
     let old = c.args.system.now.book_is in
     let known = owns_grown limits c.self.inside.front old.history c.self.inside.seat c.has_all_of.ensures c.self.invariant in
-    subst (λ (s : SeatState). IsEnded limits h s c.in-Ended.ended.why) c.self.view_is
+    subst (λ (s : SeatState). IsEnded limits h s c.in-Ended.ended.seat c.in-Ended.ended.why) c.self.view_is
     (ended_in limits h old c.take_up.new.self.book_is c.self.inside.seat c.in-Ended.ended.seat c.in-Ended.ended.why c.take_up.ensures.stood known c.take_up.ensures.part (c.take_up.ensures.grows h p) c.in-Ended.ensures.event.0 c.in-Ended.ensures.event.1)

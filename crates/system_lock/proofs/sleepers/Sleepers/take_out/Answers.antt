@@ -1,7 +1,7 @@
 use Rattle.std.proofs.Common.{◌∙◌, ℕ, List, Option, map, ap, sym}
 use Rattle.std.specs.List.{remove}
 use Rattle.system_lock.proofs.SleeperLaws.{map_removed}
-use Rattle.system_lock.proofs.DoorLaws as laws
+use Rattle.system_lock.proofs.WatchLaws as laws
 use Rattle.system_lock.proofs.sleepers.Sleepers.take_out.Goals as goal
 
 pub returns-in-Some-clause-asleep : goal.returns-in-Some-clause-asleep

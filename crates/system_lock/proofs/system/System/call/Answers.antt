@@ -9,8 +9,8 @@ use Rattle.system_lock.proofs.GrowLaws.{calls_grow}
 use Rattle.system_lock.proofs.system.System.call.Goals as goal
 
 -- the call spares all whom it was said not to stir
-pub settle-requires : goal.settle-requires
-settle-requires g c =
+pub wake_stirred-requires : goal.wake_stirred-requires
+wake_stirred-requires g c =
     let b = c.self.inside.book in
     let s = c.args.seat.now in
     let call = c.args.call in
@@ -26,4 +26,4 @@ returns-clause-grows g c =
 
 pub invariant_of-self : goal.invariant_of-self
 invariant_of-self g c =
-    (c.settle.ensures.sound, search rules, search rules, search rules, c.add_call.ensures c.self.inside.book c.call-told.new.book c.args.seat.now c.call-told.new.seat c.args.call c.call-told.ensures.event c.self.invariant.4)
+    (c.wake_stirred.ensures.sound, search rules, search rules, search rules, c.add_call.ensures c.self.inside.book c.call-told.new.book c.args.seat.now c.call-told.new.seat c.args.call c.call-told.ensures.event c.self.invariant.4)

@@ -6,8 +6,8 @@ use Rattle.run_history.specs.Fronts.{Grows}
 use Rattle.system_lock.specs.System.{SystemState}
 use Rattle.system_lock.proofs.system.System.open.Goals as goal
 
-pub settle-requires : goal.settle-requires
-settle-requires g c =
+pub wake_stirred-requires : goal.wake_stirred-requires
+wake_stirred-requires g c =
     let b = c.self.inside.book in
     let new = c.open-opened.new.book in
     record { left = (b, c.self.invariant.0, subst (λ (n : ℕ). SparesIn b new (stirred.Anybody n)) (sym c.opener-process.ensures) (c.events_spare.ensures.opens b new c.args.request c.open-opened.result c.open-opened.ensures.event)) }

@@ -11,8 +11,8 @@ use Rattle.system_lock.proofs.GrowLaws.{tries_grow}
 use Rattle.system_lock.proofs.system.System.take_up.Goals as goal
 
 -- a resume spares all but its own process and those on its pipe
-pub settle-requires : goal.settle-requires
-settle-requires g c =
+pub wake_stirred-requires : goal.wake_stirred-requires
+wake_stirred-requires g c =
     let b = c.self.inside.book in
     let s = c.args.seat in
     let new = c.resume.new.book in
@@ -22,8 +22,8 @@ settle-requires g c =
     c.at-stirred.ensures ∙ (ap (λ (n : ℕ). stirred_at n c.pipe_waited-pipe.result) c.pid-process.ensures ∙ ap (stirred_at s.pid) pipe) in
     record { left = (b, c.self.invariant.0, subst (SparesIn b new) (sym is) (c.events_spare.ensures.resumes b new s c.in-Resumed.seat c.in-Resumed.receipt c.in-Resumed.ensures.event.1)) }
 
-pub settle-requires-in-Ended : goal.settle-requires-in-Ended
-settle-requires-in-Ended g c =
+pub wake_stirred-requires-in-Ended : goal.wake_stirred-requires-in-Ended
+wake_stirred-requires-in-Ended g c =
     let b = c.self.inside.book in
     let new = c.resume.new.book in
     let spares = c.events_spare.ensures.exits b new c.args.seat c.in-Ended.ended.seat c.in-Ended.ended.why c.in-Ended.ensures.event.0 in
@@ -35,7 +35,7 @@ returns-in-Ended-clause-given_up g c = λ is. absurd (c.in-Ended.ensures.not_los
 
 pub invariant_of-self-in-Ended : goal.invariant_of-self-in-Ended
 invariant_of-self-in-Ended g c =
-    (c.settle-in-Ended.ensures.sound, search rules, search rules, search rules, c.add_exit.ensures c.self.inside.book c.resume.new.book c.args.seat c.in-Ended.ensures.event.0 c.self.invariant.4)
+    (c.wake_stirred-in-Ended.ensures.sound, search rules, search rules, search rules, c.add_exit.ensures c.self.inside.book c.resume.new.book c.args.seat c.in-Ended.ensures.event.0 c.self.invariant.4)
 
 pub returns-in-Still-clause-grows : goal.returns-in-Still-clause-grows
 returns-in-Still-clause-grows g c h p =

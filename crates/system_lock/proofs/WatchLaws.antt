@@ -13,8 +13,8 @@ use Rattle.system_lock.specs.Proved.Sleeping.{wakes_in, without, SleepsSound}
 use Rattle.record_book.specs.Refusals.{is_ready_in}
 use Rattle.system_lock.specs.Proved.Events.{still_asleep, still_lost}
 use Rattle.system_lock.specs.Proved.Sleepers.{SparesIn, pipe_in}
-use Rattle.system_lock.specs.Proved.Doors.{DoorsSound, LiveAreFew}
-use Rattle.system_lock.specs.declared.doors.Doors.{Doors}
+use Rattle.system_lock.specs.Proved.Watch.{WatchSound, LiveAreFew}
+use Rattle.system_lock.specs.declared.watch.Watch.{Watch}
 use Rattle.system_lock.specs.declared.stirred.Stirred.TheVariants as stirred
 use Rattle.system_lock.proofs.StirLaws.{neither}
 use Rattle.system_lock.proofs.SleeperLaws.{both_no, not_false, asleep_sound, filter_all, nobody_ready}
@@ -100,20 +100,20 @@ still_unmarked wakes keeps asleep woken lost kept h e f =
     (All-weaker (λ p. is_among lost p ≡ false) (λ p. is_among (filter keeps lost) p ≡ false) (λ p none. not_kept (λ other. other == p) keeps lost none) on left))
 
 -- where an event stirs nobody, all stay as they were
-pub nobody_goes : (was b : BookState) (doors : Doors) → DoorsSound was doors → SparesIn was b stirred.Nobody → DoorsSound b doors
-nobody_goes was b doors sound spares = record {
-  sleepers = nobody_ready was b doors.sleepers sound.sleepers spares;
+pub nobody_goes : (was b : BookState) (watch : Watch) → WatchSound was watch → SparesIn was b stirred.Nobody → WatchSound b watch
+nobody_goes was b watch sound spares = record {
+  sleepers = nobody_ready was b watch.sleepers sound.sleepers spares;
   asleep = sound.asleep;
   lost = sound.lost;
-  live = All-weaker (λ p. is_live_in was p ≡ true) (λ p. is_live_in b p ≡ true) (λ p there. spares.live p refl there) doors.lost.processes.items sound.live;
+  live = All-weaker (λ p. is_live_in was p ≡ true) (λ p. is_live_in b p ≡ true) (λ p there. spares.live p refl there) watch.lost.processes.items sound.live;
   unmarked = sound.unmarked;
 }
 
-pub all_sleep_on : (b : BookState) (doors : Doors) → DoorsSound b doors → doors.sleepers.asleep.items ≡ still_asleep b doors.sleepers.asleep.items
-all_sleep_on b doors sound = sym (filter_all (wakes_in b) doors.sleepers.asleep.items sound.sleepers.none_wakes)
+pub all_sleep_on : (b : BookState) (watch : Watch) → WatchSound b watch → watch.sleepers.asleep.items ≡ still_asleep b watch.sleepers.asleep.items
+all_sleep_on b watch sound = sym (filter_all (wakes_in b) watch.sleepers.asleep.items sound.sleepers.none_wakes)
 
-pub all_stay_lost : (b : BookState) (doors : Doors) → DoorsSound b doors → doors.lost.processes.items ≡ still_lost b doors.lost.processes.items
-all_stay_lost b doors sound = sym (all_kept (is_live_in b) doors.lost.processes.items sound.live)
+pub all_stay_lost : (b : BookState) (watch : Watch) → WatchSound b watch → watch.lost.processes.items ≡ still_lost b watch.lost.processes.items
+all_stay_lost b watch sound = sym (all_kept (is_live_in b) watch.lost.processes.items sound.live)
 
 -- ---- with one more
 
@@ -134,9 +134,9 @@ has_room b process xs few distinct live there none =
     omega (arith, most, length-append xs (process ∷ []))
 
 -- one more sleeps
-pub one_asleep : (b : BookState) (was now : Doors) (process : ℕ) (pipe : Option ℕ) → DoorsSound b was → is_live_in b process ≡ true → is_ready_in b process ≡ false → is_among was.lost.processes.items process ≡ false →
+pub one_asleep : (b : BookState) (was now : Watch) (process : ℕ) (pipe : Option ℕ) → WatchSound b was → is_live_in b process ≡ true → is_ready_in b process ≡ false → is_among was.lost.processes.items process ≡ false →
     is_among was.sleepers.asleep.items process ≡ false → pipe ≡ pipe_in b process → now.sleepers.asleep.items ≡ was.sleepers.asleep.items ++ process ∷ [] →
-    now.sleepers.pipes.items ≡ was.sleepers.pipes.items ++ pipe ∷ [] → now.lost.processes.items ≡ was.lost.processes.items → DoorsSound b now
+    now.sleepers.pipes.items ≡ was.sleepers.pipes.items ++ pipe ∷ [] → now.lost.processes.items ≡ was.lost.processes.items → WatchSound b now
 one_asleep b was now process pipe sound there unready unmarked none its asleep pipes lost = record {
   sleepers = asleep_sound b was.sleepers now.sleepers process pipe sound.sleepers (both_no (is_ready_in b process) (not (is_live_in b process)) unready (ap not there)) its asleep pipes;
   asleep = subst AreDistinct (sym asleep) (distinct_with process was.sleepers.asleep.items sound.asleep none);
@@ -158,9 +158,9 @@ marked_apart process lost asleep h i d l =
     let on = without asleep process in
     among_with lost process (get_or on i d) (All-filter (λ p. not (p == process)) (λ p. is_among lost p ≡ false) asleep h i d l) (kept_not (λ p. p == process) asleep i d l)
 
-pub one_lost : (b : BookState) (was now : Doors) (process : ℕ) → DoorsSound b was → is_live_in b process ≡ true → is_among was.lost.processes.items process ≡ false →
+pub one_lost : (b : BookState) (was now : Watch) (process : ℕ) → WatchSound b was → is_live_in b process ≡ true → is_among was.lost.processes.items process ≡ false →
     now.lost.processes.items ≡ was.lost.processes.items ++ process ∷ [] → now.sleepers.asleep.items ≡ without was.sleepers.asleep.items process →
-    (was.sleepers.pipes.items ≡ map (pipe_in b) was.sleepers.asleep.items → now.sleepers.pipes.items ≡ map (pipe_in b) now.sleepers.asleep.items) → DoorsSound b now
+    (was.sleepers.pipes.items ≡ map (pipe_in b) was.sleepers.asleep.items → now.sleepers.pipes.items ≡ map (pipe_in b) now.sleepers.asleep.items) → WatchSound b now
 one_lost b was now process sound there none lost asleep pipes = record {
   sleepers = record {
     none_wakes = subst (SleepsSound b) (sym asleep) (All-filter (λ p. not (p == process)) (λ p. wakes_in b p ≡ false) was.sleepers.asleep.items sound.sleepers.none_wakes);

@@ -1,7 +1,7 @@
 use Rattle.std.proofs.Common.{◌≡◌, ◌∙◌, false, arith, refl, sym}
 use Rattle.system_lock.specs.System.{is_among}
-use Rattle.system_lock.proofs.DoorLaws as laws
-use Rattle.system_lock.proofs.doors.Doors.fall_asleep.Goals as goal
+use Rattle.system_lock.proofs.WatchLaws as laws
+use Rattle.system_lock.proofs.watch.Watch.fall_asleep.Goals as goal
 
 -- those that sleep are live, and so is one more, so there is room
 pub fall_asleep-requires-clause-few : goal.fall_asleep-requires-clause-few

@@ -5,20 +5,20 @@ use Rattle.record_book.specs.Book.{BookState}
 use Rattle.system_lock.specs.System.{is_live_in, is_among, AreDistinct, AreLive, AreUnmarked}
 use Rattle.system_lock.specs.Proved.Sleeping.{without}
 use Rattle.system_lock.specs.Proved.Sleepers.{SleepersSound, SparesIn}
-use Rattle.system_lock.specs.declared.doors.Doors.{Doors}
+use Rattle.system_lock.specs.declared.watch.Watch.{Watch}
 use Rattle.system_lock.specs.declared.stirred.Stirred.{Stirred}
 
 -- those that sleep are sound and different from one another; so are those that are lost, all of which are live; and none of them sleeps
-pub record DoorsSound (b : BookState) (doors : Doors) : Type 0 where
-  pub sleepers : SleepersSound b doors.sleepers
-  pub asleep : AreDistinct doors.sleepers.asleep.items
-  pub lost : AreDistinct doors.lost.processes.items
-  pub live : AreLive b doors.lost.processes.items
-  pub unmarked : AreUnmarked doors.lost.processes.items doors.sleepers.asleep.items
+pub record WatchSound (b : BookState) (watch : Watch) : Type 0 where
+  pub sleepers : SleepersSound b watch.sleepers
+  pub asleep : AreDistinct watch.sleepers.asleep.items
+  pub lost : AreDistinct watch.lost.processes.items
+  pub live : AreLive b watch.lost.processes.items
+  pub unmarked : AreUnmarked watch.lost.processes.items watch.sleepers.asleep.items
 
 -- they were sound in some book, from which an event led to this one that stirred these
-abbrev pub AreLeft : BookState → Stirred → Doors → Type 0
-AreLeft b s doors = (was : BookState) × DoorsSound was doors × SparesIn was b s
+abbrev pub AreLeft : BookState → Stirred → Watch → Type 0
+AreLeft b s watch = (was : BookState) × WatchSound was watch × SparesIn was b s
 
 -- whether a process is marked whose connection is lost: it is live, and not marked yet
 abbrev pub is_to_mark : BookState → List ℕ → ℕ → Bool

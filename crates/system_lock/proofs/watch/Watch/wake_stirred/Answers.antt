@@ -3,8 +3,8 @@ use Rattle.system_lock.specs.System.{is_live_in}
 use Rattle.system_lock.specs.Proved.Sleeping.{wakes_in}
 use Rattle.system_lock.specs.Proved.Sleepers.{SparesIn}
 use Rattle.system_lock.specs.declared.stirred.Stirred.{Stirred}
-use Rattle.system_lock.proofs.DoorLaws as laws
-use Rattle.system_lock.proofs.doors.Doors.settle.Goals as goal
+use Rattle.system_lock.proofs.WatchLaws as laws
+use Rattle.system_lock.proofs.watch.Watch.wake_stirred.Goals as goal
 
 -- an event that stirs nobody leaves all as they were
 pub returns-in-Nobody : goal.returns-in-Nobody

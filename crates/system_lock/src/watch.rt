@@ -1,12 +1,12 @@
-//! The processes that sleep, and those whose connections are lost: two doors at which a process waits or is turned away.
+//! Whom the lock of a run watches: the processes that sleep, and those whose connections are lost.
 
 ghost use Rattle.std.specs.Prelude.{◌≡◌, [], true, false, IfOk};
-ghost use Rattle.system_lock.specs.System.{is_live_in, is_among, marked_at_doors};
+ghost use Rattle.system_lock.specs.System.{is_live_in, is_among, marked_by_watch};
 ghost use Rattle.system_lock.specs.Proved.Sleeping.{with_one};
 ghost use Rattle.record_book.specs.Refusals.{is_ready_in};
 ghost use Rattle.system_lock.specs.Proved.Events.{still_asleep, still_lost};
 ghost use Rattle.system_lock.specs.Proved.Sleepers.{pipe_in};
-ghost use Rattle.system_lock.specs.Proved.Doors.{DoorsSound, AreLeft, LiveAreFew, lost_with, asleep_without};
+ghost use Rattle.system_lock.specs.Proved.Watch.{WatchSound, AreLeft, LiveAreFew, lost_with, asleep_without};
 
 use crate::bells::Bells;
 use crate::lost::{Lost, is_live};
@@ -20,17 +20,17 @@ use std::marker::Model;
 
 /// The processes that sleep, and those whose connections are lost. None of these sleeps.
 #[derive(Drop)]
-pub(crate) struct Doors {
+pub(crate) struct Watch {
     pub(crate) sleepers: Sleepers,
     pub(crate) lost: Lost,
 }
 
-/// What shows that it was told of a process that its connection is lost. That it was marked at the doors, or had ended, only the marking
+/// What shows that it was told of a process that its connection is lost. That the watch marked it, or that it had ended, only the marking
 /// shows. Contracts see it as a `MarkState`.
 #[derive(Drop)]
 pub struct Marked {
     process: u32,
-    at_doors: bool,
+    by_watch: bool,
 }
 
 impl Model for Marked {
@@ -38,17 +38,17 @@ impl Model for Marked {
 
     ghost Value = { MarkState };
 
-    ghost view = { λ m. record { process_is = m.process; at_doors = m.at_doors } };
+    ghost view = { λ m. record { process_is = m.process; by_watch = m.by_watch } };
 }
 
 impl Marked {
-    /// Shows that nobody had to be told: in a kernel without doors no call waits for long.
+    /// Shows that nobody had to be told: in a kernel without a watch no call waits for long.
     pub fn needless(process: u32) -> Self
-        ensures { result ≡ record { process_is = process; at_doors = false } }
+        ensures { result ≡ record { process_is = process; by_watch = false } }
     {
         Marked {
             process,
-            at_doors: false,
+            by_watch: false,
         }
     }
 }
@@ -60,14 +60,14 @@ fn live_are_few()
     processes_are_counted();
 }
 
-impl Doors {
+impl Watch {
     /// Nobody sleeps, and nobody is lost.
     pub(crate) fn new(alloc: Global) -> Result<Self, AllocError>
-        ensures asleep { IfOk result (λ doors. doors.sleepers.asleep.items ≡ []) }
-        ensures pipes { IfOk result (λ doors. doors.sleepers.pipes.items ≡ []) }
-        ensures lost { IfOk result (λ doors. doors.lost.processes.items ≡ []) }
+        ensures asleep { IfOk result (λ watch. watch.sleepers.asleep.items ≡ []) }
+        ensures pipes { IfOk result (λ watch. watch.sleepers.pipes.items ≡ []) }
+        ensures lost { IfOk result (λ watch. watch.lost.processes.items ≡ []) }
     {
-        Ok(Doors {
+        Ok(Watch {
             sleepers: Sleepers::new(alloc)?,
             lost: Lost::new(alloc)?,
         })
@@ -75,9 +75,14 @@ impl Doors {
 
     /// Takes those out that an event has ended, and wakes those that it has made ready. Of those that sleep it looks at none whom the
     /// event does not stir.
-    pub(crate) fn settle<L: Ledgers>(&mut self, book: &Book<L>, bells: &Bells, stirred: Stirred)
+    pub(crate) fn wake_stirred<L: Ledgers>(
+        &mut self,
+        book: &Book<L>,
+        bells: &Bells,
+        stirred: Stirred,
+    )
         requires left { AreLeft book.now stirred self.old }
-        ensures sound { DoorsSound book.now self.new }
+        ensures sound { WatchSound book.now self.new }
         ensures asleep { self.new.sleepers.asleep.items ≡ still_asleep book.now self.old.sleepers.asleep.items }
         ensures lost { self.new.lost.processes.items ≡ still_lost book.now self.old.lost.processes.items }
     {
@@ -95,12 +100,12 @@ impl Doors {
         process: u32,
         pipe: Option<usize>,
     )
-        requires sound { DoorsSound book.now self.old }
+        requires sound { WatchSound book.now self.old }
         requires live { is_live_in book.now process ≡ true }
         requires not_ready { is_ready_in book.now process ≡ false }
         requires unmarked { is_among self.old.lost.processes.items process ≡ false }
         requires its_pipe { pipe ≡ pipe_in book.now process }
-        ensures sound { DoorsSound book.now self.new }
+        ensures sound { WatchSound book.now self.new }
         ensures asleep { self.new.sleepers.asleep.items ≡ with_one self.old.sleepers.asleep.items process }
         ensures lost { self.new.lost.processes.items ≡ self.old.lost.processes.items }
     {
@@ -117,15 +122,15 @@ impl Doors {
         bells: &Bells,
         process: u32,
     ) -> Marked
-        requires { DoorsSound book.now self.old }
-        ensures sound { DoorsSound book.now self.new }
+        requires { WatchSound book.now self.old }
+        ensures sound { WatchSound book.now self.new }
         ensures lost { self.new.lost.processes.items ≡ lost_with book.now self.old.lost.processes.items process }
         ensures asleep { self.new.sleepers.asleep.items ≡ asleep_without book.now self.old.lost.processes.items self.old.sleepers.asleep.items process }
-        ensures its { result ≡ marked_at_doors process }
+        ensures its { result ≡ marked_by_watch process }
     {
         let marked = Marked {
             process,
-            at_doors: true,
+            by_watch: true,
         };
         if !is_live(book, process) || self.lost.has(process) {
             return marked;
