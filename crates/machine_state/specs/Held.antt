@@ -5,7 +5,7 @@ use Rattle.posix_model.specs.declared.world.World.{World}
 use Rattle.process_table.specs.declared.process.Process.{Process}
 use Rattle.call_types.specs.declared.description.Description.{Description}
 use Rattle.slots.specs.declared.used.Used.{Used}
-use Rattle.pipe_ring.specs.Ring.{Ring}
+use Rattle.pipe_table.specs.Ring.{Ring}
 use Rattle.file_extents.specs.ChunkTable.{TableState}
 use Rattle.file_table.specs.declared.stored_file.StoredFile.{StoredFile}
 use Rattle.pipe_table.specs.declared.StoredPipe.{StoredPipe}

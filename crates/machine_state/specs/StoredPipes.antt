@@ -1,6 +1,6 @@
 -- Stored pipes, as pipes of a world, and the room for more.
 use Rattle.std.specs.Prelude.{ℕ, List, Option, None, Some, map, min}
-use Rattle.pipe_ring.specs.Ring.{Ring}
+use Rattle.pipe_table.specs.Ring.{Ring}
 use Rattle.pipe_table.specs.declared.StoredPipe.{StoredPipe}
 
 -- a slot, as one of the pipes of a world

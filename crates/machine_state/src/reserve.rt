@@ -6,7 +6,7 @@ use crate::descriptors::pipe_of_fifo;
 use crate::machine::Machine;
 use call_types::description::Mode;
 use file_table::stored_file::openings;
-use pipe_ring::PipeRing;
+use pipe_table::ring::PipeRing;
 use posix_model::change::{Change, FileEdit, NameEdit, ProcessEdit, TableEdit};
 use std::alloc::AllocError;
 

@@ -4,7 +4,7 @@ use Rattle.slots.specs.Slots.{slot, edited}
 use Rattle.slots.specs.declared.used.Used.{Used}
 use Rattle.slots.specs.UsedSlots.{value_at, values_in}
 use Rattle.slots.specs.Proved.Uses.{with_value}
-use Rattle.pipe_ring.specs.Ring.{Ring}
+use Rattle.pipe_table.specs.Ring.{Ring}
 use Rattle.pipe_table.specs.declared.StoredPipe.{StoredPipe}
 use Rattle.pipe_table.specs.Blocks.{block_in, block_slots}
 use Rattle.pipe_table.specs.Proved.Pipes.{block_at, with_block}

@@ -8,6 +8,8 @@
 //! it gives, and nothing else in here can fail.
 #![tactic(auto)]
 
+pub mod ring;
+
 ghost use Rattle.std.specs.Prelude.{◌≡◌, ℕ, ◌+◌, ◌-◌, ◌<◌, ◌≤◌, ◌^◌, ◌∷◌, [], ◌++◌, Some, true, is_some, length, take, drop, IfOk, OnOk, IsOk};
 ghost use Rattle.call_types.specs.declared.limits.TheConstants.{TRANSFER_MAX};
 ghost use Rattle.call_types.specs.Stored.{span_bytes};
@@ -17,10 +19,10 @@ ghost use Rattle.slots.specs.Proved.Uses.{uses_at, last_value, used_once, use_ad
 ghost use Rattle.pipe_table.specs.Blocks.{block_slots};
 ghost use Rattle.pipe_table.specs.Proved.Pipes.{held_at, readers_at, writers_at, block_at, places_left, edited_ring, with_block, endless, with_end, without_end, HasEnd, HasEndAt, HasPlacesAt};
 
+use crate::ring::PipeRing;
 use call_types::bounded::Content;
 use call_types::description::Mode;
 use call_types::span::Span;
-use pipe_ring::PipeRing;
 use slots::numbered::Numbered;
 use slots::used::Used;
 use std::alloc::{AllocError, Global};

@@ -1,5 +1,5 @@
 //! The bytes of one pipe.
-use pipe_ring::PipeRing;
+use pipe_table::ring::PipeRing;
 use std::test::Fail;
 
 #[test]

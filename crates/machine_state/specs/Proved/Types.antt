@@ -13,7 +13,7 @@ pub use Rattle.posix_model.specs.declared.change.TableEdit.{TableEdit}
 pub use Rattle.posix_model.specs.declared.change.Change.{Change}
 pub use Rattle.slots.specs.declared.used.Used.{Used}
 pub use Rattle.description_table.specs.declared.Dropped.{Dropped}
-pub use Rattle.pipe_ring.specs.Ring.{Ring}
+pub use Rattle.pipe_table.specs.Ring.{Ring}
 pub use Rattle.file_extents.specs.ChunkTable.{TableState}
 pub use Rattle.file_table.specs.declared.stored_file.FileBody.{FileBody}
 pub use Rattle.file_table.specs.declared.stored_file.StoredFile.{StoredFile}

@@ -4,8 +4,8 @@ use Rattle.slots.specs.Slots.{slot}
 use Rattle.slots.specs.declared.used.Used.{Used}
 use Rattle.call_types.specs.declared.description.Mode.{Mode}
 use Rattle.call_types.specs.declared.description.Mode.TheVariants as mode
-use Rattle.pipe_ring.specs.Ring.{Ring}
-use Rattle.pipe_ring.specs.Proved.Places.{HasPlaces}
+use Rattle.pipe_table.specs.Ring.{Ring}
+use Rattle.pipe_table.specs.Proved.Places.{HasPlaces}
 use Rattle.pipe_table.specs.declared.StoredPipe.{StoredPipe}
 use Rattle.pipe_table.specs.Blocks.{block_in}
 

@@ -1,6 +1,6 @@
 use Rattle.std.proofs.Common.{◌≡◌, ◌-◌, ◌≤◌, ◌+◌, ◌++◌, ◌∙◌, ap, length, replicate, append_assoc, length-append, arith}
 use Rattle.std.proofs.lemmas.List.{length-replicate, take-replicate, replicate-append-replicate}
-use Rattle.pipe_ring.proofs.PipeRing.put_same.Goals as goal
+use Rattle.pipe_table.proofs.ring.PipeRing.put_same.Goals as goal
 
 pub loop-left-preserved : goal.loop-left-preserved
 loop-left-preserved c =

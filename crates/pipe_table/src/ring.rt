@@ -3,10 +3,9 @@
 //! They stand in one block, as a ring. A new pipe has no block: `reserve` makes places for bytes, and then putting and taking them wants no memory. A block that is
 //! too small is replaced by one of twice the size at least, but never of more places than the pipe can hold bytes. So all its blocks together move fewer bytes than
 //! twice its capacity, however long it lives. The block is given back with the pipe.
-#![tactic(auto)]
 
 ghost use Rattle.std.specs.Prelude.{◌≡◌, ◌-◌, ◌≤◌, [], ◌++◌, length, min, take, drop, replicate, IfOk, OnOk, IsOk};
-ghost use Rattle.pipe_ring.specs.Proved.Places.{HasPlaces};
+ghost use Rattle.pipe_table.specs.Proved.Places.{HasPlaces};
 
 use circular_buffer::HeapCircularBuffer;
 use std::alloc::{AllocError, Global};
@@ -28,7 +27,7 @@ pub struct PipeRing {
 
 impl Model for PipeRing {
     ghost use Rattle.std.specs.Prelude.{length, ◌≤◌};
-    ghost use Rattle.pipe_ring.specs.Ring.{Ring};
+    ghost use Rattle.pipe_table.specs.Ring.{Ring};
 
     ghost Value = { Ring };
 

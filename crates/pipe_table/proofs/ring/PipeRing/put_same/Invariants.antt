@@ -1,5 +1,5 @@
 use Rattle.std.proofs.Common.{◌≡◌, ◌-◌, ◌≤◌, ◌++◌, length, replicate}
-use Rattle.pipe_ring.proofs.PipeRing.put_same.Given as goal
+use Rattle.pipe_table.proofs.ring.PipeRing.put_same.Given as goal
 
 abbrev pub invariant-loop-left : goal.invariant-loop-left
 invariant-loop-left l = record {
