@@ -63,7 +63,7 @@ WALKS = (
         "session_core/src/serve.rt",
         "serve",
         {"Call": "Write", "Act": "Call", "Request": "Call", "FileEdit": "Bytes"},
-        Most(677, 123, 22),
+        Most(677, 122, 22),
         "pump pump_on feed push_all end_of_piece attend take_ring take_next take_call call start settle put_recorded "
         "encode_recorded send_ready flush wait_out wait_once finish leave_all hang_up",
     ),

@@ -10,6 +10,8 @@ use crate::state::Audited;
 use crate::verdict::{Ending, ended_by};
 use call_types::act::{Act, Record};
 use call_types::outcome::Outcome;
+use calls::decide::decide;
+use calls::given::given;
 use frame_codec::trace::ToldLimits;
 use machine_state::machine::Machine;
 use posix_model::change::Decided;
@@ -17,8 +19,6 @@ use posix_model::laws::{acts_are_sound, numbers_rise};
 use posix_model::reader::WorldReader;
 use std::alloc::{AllocError, Global};
 use std::marker::Model;
-use table_calls::decide::decide;
-use table_calls::given::given;
 
 /// A judge of records: the machine that those so far led to, what is told of their run, how many they were and how they end. It keeps
 /// none of them.

@@ -7,14 +7,14 @@ use crate::sweep::sweep;
 use call_types::act::{Act, HOUSE};
 use call_types::limits::{Bounds, Limits};
 use call_types::outcome::Outcome;
-use pipe_calls::resume::is_ready;
+use calls::decide::{can_call, decide};
+use calls::given::given;
+use calls::resume::is_ready;
 use posix_model::change::Decided;
 use posix_model::laws::acts_are_sound;
 use posix_model::reader::WorldReader;
 use posix_model::world::World;
 use std::alloc::{AllocError, Global};
-use table_calls::decide::{can_call, decide};
-use table_calls::given::given;
 
 /// Why there was no step. The world is as it was.
 #[derive(Clone, Copy, Debug, PartialEq, Eq)]

@@ -19,12 +19,12 @@ use crate::journal::Journal;
 use crate::prepared::Prepared;
 use crate::seat::Receipt;
 use call_types::act::{Act, HOUSE};
+use calls::exit::{decide_close_run, decide_exit};
 use machine_state::machine::Machine;
 use posix_model::change::Decided;
 use posix_model::laws::processes_are_counted;
 use posix_model::reader::WorldReader;
 use slots::numbered::Numbered;
-use table_calls::exit::{decide_close_run, decide_exit};
 
 /// Ends a process by its prepared record, and returns the receipt.
 fn end_process(

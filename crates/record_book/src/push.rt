@@ -13,10 +13,10 @@ ghost use Rattle.trace_ring.specs.Proved.Trace.{Pushes};
 use crate::history::History;
 use crate::journal::Journal;
 use call_types::act::Record;
+use calls::given::given;
 use machine_state::machine::Machine;
 use posix_model::change::Change;
 use std::sync::Arc;
-use table_calls::given::given;
 
 impl Journal {
     /// Makes the change of an act in the machine, and appends the act's record to the history, which puts a share of it into the

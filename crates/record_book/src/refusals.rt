@@ -17,14 +17,14 @@ use byte_ledger::ledgers::Ledgers;
 use call_types::act::Act;
 use call_types::call::Call;
 use call_types::refusal::Refusal;
-use pipe_calls::resume::decide_resume;
+use calls::attach::decide_attach;
+use calls::decide::{call_adds, decide_call, join_adds};
+use calls::join::{decide_join, is_full};
+use calls::resume::decide_resume;
 use posix_model::change::Decided;
 use posix_model::laws::{acts_are_sound, numbers_rise, processes_are_counted, records_are_short};
 use posix_model::reader::WorldReader;
 use std::alloc::{AllocError, Global};
-use table_calls::attach::decide_attach;
-use table_calls::decide::{call_adds, decide_call, join_adds};
-use table_calls::join::{decide_join, is_full};
 
 /// Promises that no field of an act is longer than a call may give it. It does nothing.
 fn act_is_short(act: &Act)
@@ -48,7 +48,7 @@ impl Journal {
     pub(crate) fn is_ready(&self, process: u32) -> bool
         ensures { result ≡ is_ready self.now.limits.bounds (world_now self.now) process }
     {
-        pipe_calls::resume::is_ready(&self.machine, self.limits.bounds(), process as usize)
+        calls::resume::is_ready(&self.machine, self.limits.bounds(), process as usize)
     }
 
     /// Whether one more record would leave too few for `live` exits and, while the run is open, the closing.

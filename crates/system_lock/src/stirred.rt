@@ -9,7 +9,7 @@ use call_types::call::Call;
 use call_types::outcome::{Outcome, Reply};
 use call_types::refusal::Refusal;
 use call_types::request::Request;
-use pipe_calls::targets::pipe_at;
+use calls::targets::pipe_at;
 use posix_model::laws::{
     acts_are_sound, numbers_rise, sweep_leaves_wanted, sweep_releases, sweep_settles,
 };
