@@ -1,1 +1,1 @@
-pub mod TableLaws
+pub mod MaskLaws

@@ -1,2 +1,3 @@
+pub mod Masks
 pub mod Waits
 pub mod Joined

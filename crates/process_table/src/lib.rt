@@ -2,6 +2,7 @@
 #![tactic(auto)]
 
 pub mod kept_call;
+mod mask;
 pub mod process;
 pub mod processes;
 pub mod table;

@@ -1,36 +1,31 @@
-ghost use Rattle.std.specs.Prelude.{◌≡◌, ◌<◌, None, Some, length, replicate, slice_set, option_copied, IfOk, IfSome, IfNone};
+ghost use Rattle.std.specs.Prelude.{◌≡◌, ◌<◌, None, Some, replicate, slice_set, option_copied, IfOk, IfSome, IfNone};
 ghost use Rattle.slots.specs.Slots.{slot, lowest};
 ghost use Rattle.process_table.specs.Tables.{two_lowest, IsNextOpen, IsFreeFrom};
 
+use crate::mask::OpenMask;
 use call_types::limits::OPEN_MAX;
 use slots::dense::Slots;
 use slots::ticket::Ticket;
 use std::alloc::{AllocError, Global};
 use std::marker::Model;
 
-/// The first slot that is free.
-fn first_free(slots: &[Option<Ticket>]) -> Option<usize>
-    ensures { result ≡ lowest slots.now }
-{
-    slots.iter().position(|slot| slot.is_none())
-}
-
 /// The descriptors of a process (XBD 3, File Descriptor), each with the number of the description that it refers to, or free.
 /// Contracts see the list of them, by number.
 #[derive(Drop)]
 pub struct DescriptorTable {
     slots: Slots<Ticket>,
+    mask: OpenMask,
 }
 
 impl Model for DescriptorTable {
-    ghost use Rattle.std.specs.Prelude.{◌≡◌, List, Option, ℕ, length};
-    ghost use Rattle.call_types.specs.declared.limits.TheConstants.{OPEN_MAX};
+    ghost use Rattle.std.specs.Prelude.{List, Option, ℕ};
+    ghost use Rattle.process_table.specs.Proved.Masks.{Marks};
 
     ghost Value = { List (Option ℕ) };
 
     ghost view = { λ table. table.slots };
 
-    ghost invariant = { λ table. length table.slots ≡ OPEN_MAX };
+    ghost invariant = { λ table. Marks table.mask.bits table.slots };
 }
 
 impl DescriptorTable {
@@ -40,6 +35,7 @@ impl DescriptorTable {
     {
         Ok(DescriptorTable {
             slots: Slots::free(alloc, OPEN_MAX)?,
+            mask: OpenMask::none(),
         })
     }
 
@@ -64,29 +60,14 @@ impl DescriptorTable {
         ensures none { IfNone result (IsFreeFrom self.now from) }
         ensures within { IfSome result (λ fd. fd < OPEN_MAX) }
     {
-        let _slots = &self.slots;
-        for fd in from..OPEN_MAX {
-            if self.get(fd).is_some() {
-                return Some(fd);
-            }
-        }
-        None
+        self.mask.next_open(from)
     }
 
     /// The lowest free descriptor (XSH 2.14, File Descriptor Allocation).
     pub fn lowest_free(&self) -> Option<usize>
         ensures { result ≡ lowest self.now }
     {
-        self.slots.lowest_free()
-    }
-
-    /// The lowest free descriptor once the lowest one is taken.
-    fn next_free(&self, first: usize) -> Option<usize>
-        requires { lowest self.now ≡ Some first }
-        ensures { result ≡ lowest (slice_set self.now first (Some 0)) }
-    {
-        let behind = first_free(&self.slots.all()[first + 1..])?;
-        Some(first + 1 + behind)
+        self.mask.lowest_free()
     }
 
     /// The two lowest free descriptors, as a call that opens two of them takes them (page of pipe).
@@ -94,9 +75,8 @@ impl DescriptorTable {
         ensures exact { result ≡ two_lowest self.now }
         ensures within { IfSome result (λ fds. (fds.0 < OPEN_MAX) × (fds.1 < OPEN_MAX)) }
     {
-        let _slots = &self.slots;
-        let first = self.lowest_free()?;
-        let second = self.next_free(first)?;
+        let first = self.mask.lowest_free()?;
+        let second = self.mask.with(first).lowest_free()?;
         Some((first, second))
     }
 
@@ -105,6 +85,7 @@ impl DescriptorTable {
         ensures old { result ≡ slot self.old fd }
         ensures table { self.new ≡ slice_set self.old fd entry }
     {
+        self.mask = self.mask.replaced(fd, &entry);
         self.slots.replace(fd, entry)
     }
 
@@ -124,6 +105,7 @@ impl Clone for DescriptorTable {
     fn clone(&self) -> Result<Self, AllocError> {
         Ok(DescriptorTable {
             slots: self.slots.clone()?,
+            mask: self.mask,
         })
     }
 }
