@@ -13,7 +13,7 @@ from typing import NamedTuple
 from support import plain_model
 from support.histories import UNKNOWN, Noted
 from support.plain_model import Limits
-from support.searching import FOREVER, Step, TooLong
+from support.searching import FOREVER, Step, TooLong, first_path
 from support.worlds import States
 
 # The calls of a thread, in their order.
@@ -35,30 +35,22 @@ class ThreadSearch:
         self.lanes = lanes
         self.states_most = states_most
         self.until = time.monotonic() + seconds
+        self.seen: set[Place] = set()
         processes = [lane[0].process for lane in lanes]
         self.shared = {process for process in processes if processes.count(process) > 1}
         self.has_waited = False
 
     def order(self) -> list[tuple[Step, Noted]] | None:
         """The steps of an order, each with its call, or None where there is none."""
-        start = Place((0,) * len(self.lanes), 0)
-        seen, path = {start}, list[tuple[Step, Noted]]()
-        open_moves = [self.moves(start)]
-        while open_moves:
-            move = next(open_moves[-1], None)
-            if move is None:
-                open_moves.pop()
-                del path[len(open_moves) - 1 :]
-            elif move[1] not in seen:
-                seen.add(move[1])
-                del path[len(open_moves) - 1 :]
-                path.append(move[0])
-                if self.is_end(move[1]):
-                    return path
-                open_moves.append(self.moves(move[1]))
-            if len(seen) > self.states_most or time.monotonic() > self.until:
-                raise TooLong(len(seen))
-        return None
+        return first_path(Place((0,) * len(self.lanes), 0), self.moves, self.is_end, self.was_seen)
+
+    def was_seen(self, place: Place) -> bool:
+        """Whether a place was met before; from now on it was."""
+        count = len(self.seen)
+        self.seen.add(place)
+        if len(self.seen) > self.states_most or time.monotonic() > self.until:
+            raise TooLong(len(self.seen))
+        return len(self.seen) == count
 
     def is_end(self, place: Place) -> bool:
         """Whether all calls that came back were made."""

@@ -10,7 +10,7 @@ placed, ends there, and gives what was noted; what comes after it in time waits 
 
 import time
 from collections.abc import Callable, Iterator, Sequence
-from typing import NamedTuple
+from typing import NamedTuple, TypeVar
 
 from support import plain_model
 from support.footprints import Footprints, rivals
@@ -21,6 +21,10 @@ from support.unseen import last_looks
 from support.worlds import States
 
 FOREVER = float("inf")
+
+# Where a search is, and what leads from there to another place.
+At = TypeVar("At")
+By = TypeVar("By")
 
 
 class Step(NamedTuple):
@@ -36,6 +40,34 @@ class TooLong(Exception):
     def __init__(self, states: int) -> None:
         super().__init__(f"given up after {states} states")
         self.states = states
+
+
+def first_path(
+    start: At,
+    moves: Callable[[At], Iterator[tuple[By, At]]],
+    is_end: Callable[[At], bool],
+    was_seen: Callable[[At], bool],
+) -> list[By] | None:
+    """What leads to the first end that is met, depth first, or None where no end is."""
+    path: list[By] = []
+    if is_end(start):
+        return path
+    open_moves = [moves(start)]
+    while open_moves:
+        move = next(open_moves[-1], None)
+        if move is None:
+            open_moves.pop()
+            del path[len(open_moves) - 1 :]
+            continue
+        by, at = move
+        if was_seen(at):
+            continue
+        del path[len(open_moves) - 1 :]
+        path.append(by)
+        if is_end(at):
+            return path
+        open_moves.append(moves(at))
+    return None
 
 
 class Call:
@@ -98,27 +130,7 @@ class Search:
     def order(self) -> list[Step] | None:
         """The steps of an order, or None where there is none."""
         start = Place((0,) * len(self.processes), 0, 0)
-        path: list[Step] = []
-        if not self.foretold.is_possible:
-            return None
-        if self.is_end(start):
-            return path
-        open_moves = [self.moves(start)]
-        while open_moves:
-            move = next(open_moves[-1], None)
-            if move is None:
-                open_moves.pop()
-                del path[len(open_moves) - 1 :]
-                continue
-            step, place = move
-            if self.was_seen(place):
-                continue
-            del path[len(open_moves) - 1 :]
-            path.append(step)
-            if self.is_end(place):
-                return path
-            open_moves.append(self.moves(place))
-        return None
+        return first_path(start, self.moves, self.is_end, self.was_seen) if self.foretold.is_possible else None
 
     def was_seen(self, place: Place) -> bool:
         """Whether a place was tried before; from now on it was."""
