@@ -10,6 +10,8 @@ The program is crates/fdref/out/fdref where no PATH is given.
   - Of races of each kind, and of random walks, N histories (6) are made by the plain model, with random times that fit.
     All have an order. In two of three an answer or a time is changed then. Whether there is an order is known by going
     through all of them.
+  - So it is with histories of threads, which share descriptors: what later answers tell leaves an order to each that
+    has one.
   - What is left out where a history is made short must leave an order to each history that has one.
   - Each order that is found must be one for the program, and tools/order.py must say so, by its lines and its status.
   - tools/waiting.py tells of traces by hand, and of 40 random ones, who is there and who waits.
@@ -26,7 +28,7 @@ import sys
 import tempfile
 from collections.abc import Sequence
 
-from parts import clocked_clients, order_tool, random_histories, told_histories, waiting_tool
+from parts import clocked_clients, lane_histories, order_tool, random_histories, told_histories, waiting_tool
 from parts.c_programs import builds
 from support.counting import Count
 from support.options import ONLY, PROGRAM, SEED, asked, count_option
@@ -49,6 +51,7 @@ def main(words: Sequence[str]) -> int:
         ("tools/order.py", order_tool.cases(program)),
         ("tools/waiting.py", waiting_tool.cases(program, args.seed, TRACES)),
         ("random histories", random_histories.cases(program, args.seed, args.histories)),
+        ("random histories of threads", lane_histories.cases(program, args.seed, 4 * args.histories)),
         ("what is left out", random_histories.left_out_cases(args.seed, args.histories)),
         ("6 processes with 20 calls", random_histories.large_cases(program, args.seed)),
     ]

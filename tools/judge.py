@@ -40,7 +40,8 @@ thread keeps its order, a fork is before the first call of its child, and a call
 one began is before it. It is run through fdref then. If there is one, the two agree as far as that goes; if
 there is none, they do not. After 20 seconds or 100,000 states the search is given up, and it decides nothing
 where what has no line may be why it found none: that is told. Then a read of a pipe may have the reason that
-it depends on who comes first.
+it depends on who comes first, and other answers that differ without a reason are not judged where orders were
+left that were not tried.
 
 The processes of a program may come in another order in the next run, and where its answers depend on
 that, so may what is told of it.
@@ -49,7 +50,8 @@ The last line says what the exit status means, which is 0 where both ended by th
 status, standard output and standard error, each answer that differs has a reason, may follow from one that
 has, or comes by another order, and the audit finds the trace legal, whatever went past fdref; 1 where one of
 these is not so; 2 for wrong words; 3 where the program could not be run or compared, ended with neither, or
-crashed with both, as by a bad address, or where a child did so with fdref for which it waited.
+crashed with both, as by a bad address, or where a child did so with fdref for which it waited, and where it
+was not decided whether an order explains what differs.
 """
 
 import argparse
@@ -362,7 +364,12 @@ class Verdict:
         """Whether an answer differs that neither a reason nor an order of the calls explains."""
         if self.order and self.order.is_found is not None:
             return not self.order.is_found
-        return self.unexplained is not None
+        return self.unexplained is not None and not self.is_open()
+
+    def is_open(self) -> bool:
+        """Whether an order that was not tried may explain an answer that has no reason."""
+        is_undecided = self.order is not None and self.order.is_found is None and not self.order.has_tried_all
+        return is_undecided and self.unexplained is not None
 
     def reason_of(self, finding: Finding) -> Reason | None:
         """The reason of a finding. Who comes first is none where no order explains the answers."""
@@ -396,7 +403,7 @@ class Verdict:
         """The exit status."""
         if self.differs() or not self.audit.startswith("legal "):
             return 1
-        if not self.has_ended() or crash_of(self.both) or self.crashes:
+        if self.is_open() or not self.has_ended() or crash_of(self.both) or self.crashes:
             return 3
         return 0 if self.both.system == self.both.fdref else 1
 
@@ -515,14 +522,22 @@ def told_open(order: some_order.Ordered | None) -> list[str]:
     return ["not decided is whether the order of the calls explains it"] if order and order.is_found is None else []
 
 
+def told_unexplained(verdict: Verdict) -> str:
+    """How many answers have no reason, what the first may follow from instead, and that it is not decided whether an
+    order explains them."""
+    count = sum(not verdict.reason_of(it) and not it.follows for it in verdict.findings)
+    differ = several(count, "answer differs without a reason", "answers differ without a reason")
+    cause = past.cause_of(verdict.first(), verdict.past)
+    differ += f", perhaps by {cause.said(' of ')}, which went past fdref" if cause else ""
+    return "; ".join([differ, *told_open(verdict.order)])
+
+
 def told_difference(verdict: Verdict) -> str:
     """What status 1 means."""
-    count = sum(not verdict.reason_of(it) and not it.follows for it in verdict.findings)
     if verdict.differs() and verdict.order and verdict.order.is_found is False:
         return verdict.order.said
     if verdict.differs():
-        differ = several(count, "answer differs without a reason", "answers differ without a reason")
-        return "; ".join([differ, *told_open(verdict.order)])
+        return told_unexplained(verdict)
     if not verdict.audit.startswith("legal "):
         return "the audit finds a fault in the trace of fdref"
     told = "the two runs end otherwise, or write something else"
@@ -534,7 +549,9 @@ def told_verdict(verdict: Verdict) -> str:
     status = verdict.status()
     if status == 0:
         return f"verdict: {told_agreement(verdict)}"
-    return f"verdict: a difference: {told_difference(verdict)}" if status == 1 else "verdict: not judged"
+    if status == 1:
+        return f"verdict: a difference: {told_difference(verdict)}"
+    return f"verdict: not judged: {told_unexplained(verdict)}" if verdict.is_open() else "verdict: not judged"
 
 
 def told_strict(every: list[past.Past]) -> list[str]:

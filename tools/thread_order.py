@@ -1,9 +1,9 @@
 """Searching for an order of calls that threads made, in which the plain model gives the same answers.
 
-Calls of threads share the descriptors of their process, so that nothing is known of a call before the search comes to
-it: all orders are tried that keep the order of each thread and that of time. A state that was met before with the same
-calls made is not tried again. In the model a process waits as a whole, so a call of a thread may not wait: it comes
-where it need not. That one had to wait, in an order that was not tried for this, is told.
+All orders are tried that keep the order of each thread and that of time, first the one in which the calls came back. A
+state that was met before with the same calls made is not tried again, and none in which a write has put bytes where
+later answers tell others. In the model a process waits as a whole, so a call of a thread may not wait: it comes where
+it need not. That one had to wait, in an order that was not tried for this, is told.
 """
 
 import time
@@ -12,12 +12,10 @@ from typing import NamedTuple
 
 from support import plain_model
 from support.histories import UNKNOWN, Noted
+from support.lanes import Lane, Told
 from support.plain_model import Limits
 from support.searching import FOREVER, Step, TooLong, first_path
 from support.worlds import States
-
-# The calls of a thread, in their order.
-Lane = Sequence[Noted]
 
 
 class Place(NamedTuple):
@@ -39,10 +37,12 @@ class ThreadSearch:
         processes = [lane[0].process for lane in lanes]
         self.shared = {process for process in processes if processes.count(process) > 1}
         self.has_waited = False
+        self.told = Told(lanes)
 
     def order(self) -> list[tuple[Step, Noted]] | None:
         """The steps of an order, each with its call, or None where there is none."""
-        return first_path(Place((0,) * len(self.lanes), 0), self.moves, self.is_end, self.was_seen)
+        start = Place((0,) * len(self.lanes), 0)
+        return first_path(start, self.moves, self.is_end, self.was_seen) if self.told.is_possible else None
 
     def was_seen(self, place: Place) -> bool:
         """Whether a place was met before; from now on it was."""
@@ -59,8 +59,8 @@ class ThreadSearch:
 
     def moves(self, place: Place) -> Iterator[tuple[tuple[Step, Noted], Place]]:
         """All that may come next, and where that leads."""
-        due = [(at, lane[begun]) for at, (lane, begun) in self.due(place)]
-        limit = min((FOREVER if noted.end is None else noted.end for _, noted in due), default=FOREVER)
+        due = sorted([(at, lane[begun]) for at, (lane, begun) in self.due(place)], key=lambda it: end_of(it[1]))
+        limit = end_of(due[0][1]) if due else FOREVER
         waiting = self.states.waiting[place.state]
         for at, noted in due:
             is_waiting = noted.process in waiting
@@ -75,7 +75,8 @@ class ThreadSearch:
                 self.has_waited = True
             elif goes_on or noted.outcome in (UNKNOWN, outcome):
                 begun = (*place.begun[:at], place.begun[at] + (not goes_on), *place.begun[at + 1 :])
-                yield (Step(act, outcome), noted), Place(begun, state)
+                if goes_on or self.told.may_be(at, begun, self.states.all[state]):
+                    yield (Step(act, outcome), noted), Place(begun, state)
 
     def due(self, place: Place) -> list[tuple[int, tuple[Lane, int]]]:
         """The lanes whose next call may come, each with how many have begun: an exit comes when all of its process have
@@ -90,6 +91,11 @@ class ThreadSearch:
             if not is_last or all(number == len(other) for other, number in others):
                 found.append((at, (lane, begun)))
         return found
+
+
+def end_of(noted: Noted) -> float:
+    """When a call came back."""
+    return FOREVER if noted.end is None else noted.end
 
 
 def is_optional(noted: Noted) -> bool:

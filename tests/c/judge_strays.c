@@ -1,6 +1,6 @@
 /* Does what the answers of no two systems agree on.
 
-   usage: judge_strays call|answer|output|leaves-out|passes|spawns|starts|stdio|closes|streams|threads|looks|vforks
+   usage: judge_strays call|answer|output|leaves-out|passes|spawns|starts|stdio|closes|streams|threads|looks|vforks|copies
 
    call        writes the number of its process into a file
    answer      changes a file by a system call that no library sees, and asks for the size of it
@@ -14,7 +14,8 @@
    streams     makes a file by stdio, and one by a path with a slash, and opens the first
    threads     has a thread that waits for what another one writes
    looks       has a file at descriptor 0 and prints when its own file was changed
-   vforks      has a child by vfork */
+   vforks      has a child by vfork
+   copies      copies its file by copy_file_range, or by a read and a write where it cannot, as cat does */
 
 #define _GNU_SOURCE
 
@@ -36,6 +37,17 @@ static int passes(int fd)
     int in = open("d/x", O_RDWR | O_CREAT, 0600);
     fcntl(fd, F_SETFL, O_ASYNC);
     return !file || fclose(file) != 0 || !is_made || close(in) != 0 || close(null) != 0;
+}
+
+static int copies(int fd)
+{
+    char bytes[4] = "text";
+    int to = open("b", O_WRONLY | O_CREAT, 0600);
+    if (pwrite(fd, bytes, sizeof bytes, 0) != sizeof bytes || to < 0)
+        return 1;
+    if (copy_file_range(fd, NULL, to, NULL, sizeof bytes, 0) == sizeof bytes)
+        return close(to);
+    return read(fd, bytes, sizeof bytes) != sizeof bytes || write(to, bytes, sizeof bytes) != sizeof bytes || close(to);
 }
 
 static void streams(void)
@@ -101,6 +113,8 @@ int main(int count, char **words)
     if (strcmp(what, "leaves-out") == 0 && symlink("a", "b") != 0)
         return 1;
     if (strcmp(what, "passes") == 0 && passes(fd) != 0)
+        return 1;
+    if (strcmp(what, "copies") == 0 && copies(fd) != 0)
         return 1;
     if (strcmp(what, "streams") == 0)
         streams();

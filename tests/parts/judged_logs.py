@@ -1,6 +1,6 @@
 """Logs that are compared as tools/judge.py does: where two runs part, and for which reason."""
 
-from collections.abc import Iterator
+from collections.abc import Iterator, Sequence
 from functools import partial
 from typing import NamedTuple
 
@@ -397,6 +397,20 @@ READS_HERE = "5 p1 write 1 x61 = 1; 6 p0 read 0 9 = x61; 7 p0 read 0 9 = error E
 EXCL_HERE = "6 p1 open l w,creat,excl = 2; 7 p2 open l w,creat,excl = error EEXIST"
 EXCL = "p1 open l w,creat,excl = error EEXIST; p2 open l w,creat,excl = {}"
 
+
+def in_step(order: Sequence[str], more: str = "") -> tuple[str, str]:
+    """Logs of three threads that write at once by one offset, again and again, and of a read of that by one of them:
+    on the system it gives the bytes of each round in an order, and more."""
+    lanes = dict(zip("xyz", ("", "-1 ", "-2 "), strict=True))
+    writes = [(lane, f"{who}{number}".encode().hex()) for number in range(10) for who, lane in lanes.items()]
+    found = "".join(f"{who}{number}".encode().hex() for number in range(10) for who in order)
+    system = ["p0 open a rw,creat = 0", *(f"{lane}p0 write 0 x{data} = 2" for lane, data in writes)]
+    fdref = ["p0 join = 0", *(line.removeprefix("-1 ").removeprefix("-2 ") for line in system)]
+    fdref.append(f"p0 pread 0 0 99 = x{''.join(data for _, data in writes)}")
+    system.append(f"p0 pread 0 0 99 = x{found}{more}")
+    return "; ".join(system), "; ".join(f"{at} {line}" for at, line in enumerate(fdref))
+
+
 ORDERS = [
     Orders(
         "two processes and a name that one of them makes",
@@ -515,7 +529,7 @@ ORDERS = [
         TWO + EXCL.format("error EEXIST"),
         TWO_HERE + EXCL_HERE,
         f"{OPEN_ORDER}none was found, but fopen of l, which went past fdref, may be why",
-        f"a difference: 1 answer differs without a reason; {NOT_DECIDED}",
+        f"a difference: 1 answer differs without a reason, perhaps by fopen of l, which went past fdref; {NOT_DECIDED}",
         1,
         "! 1 p0 stream fopen\tl",
     ),
@@ -547,12 +561,26 @@ ORDERS = [
         1,
     ),
     Orders(
+        "threads that act in step, in another order than that of their lines",
+        *in_step("zyx"),
+        f"reason: {AN_ORDER}",
+        f"agreement: {AN_ORDER}",
+        0,
+    ),
+    Orders(
+        "threads that act in step, and a byte that nobody has written",
+        *in_step("zyx", "61"),
+        NO_ORDER,
+        f"a difference: {NO_ORDER}",
+        1,
+    ),
+    Orders(
         "two threads, of which one may have waited",
         "p0 mkfifo f = ok; p0 open f r = 0; -1 p0 open f w = 1; p0 close 7 = ok",
         "0 p0 join = 0; 1 p0 mkfifo f = ok; 2 p0 open f r,nonblock = 0; 3 p0 open f w = 1; 4 p0 close 7 = error EBADF",
         f"{OPEN_ORDER}a thread may have waited in a call",
-        f"a difference: 1 answer differs without a reason; {NOT_DECIDED}",
-        1,
+        f"not judged: 1 answer differs without a reason; {NOT_DECIDED}",
+        3,
     ),
     Orders(
         "one process",
@@ -627,7 +655,7 @@ def gives_up() -> None:
     finally:
         some_order.STATES_MOST, some_order.STATES_LEAST = before
     require(f"{OPEN_ORDER}given up after 4 states" in judge.told(verdict, 60, 0), judge.told(verdict, 60, 0))
-    same((f"verdict: a difference: 1 answer differs without a reason; {NOT_DECIDED}", 1), ending(verdict))
+    same((f"verdict: not judged: 1 answer differs without a reason; {NOT_DECIDED}", 3), ending(verdict))
 
 
 def ending(verdict: judge.Verdict) -> tuple[str, int]:

@@ -8,11 +8,11 @@ given next.
 """
 
 from collections.abc import Iterable, Iterator, Mapping, Sequence
-from typing import NamedTuple
+from typing import NamedTuple, Protocol
 
 from support import plain_model
 from support.contents import Contents, Held
-from support.footprints import Footprints, Opened
+from support.footprints import Names, Opened, Touch
 from support.histories import WAITS, Noted
 from support.worlds import State, behind
 
@@ -112,10 +112,17 @@ def found(state: State, process: int, fd: int) -> tuple[Held | bytes, int]:
 # ---- a whole history
 
 
+class Touches(Protocol):
+    """What each call of a history touches, and which names are one."""
+
+    names: Names
+    touches: list[Touch]
+
+
 class Foretold:
     """What the answers of a history tell of its writes."""
 
-    def __init__(self, history: Sequence[Noted], footprints: Footprints) -> None:
+    def __init__(self, history: Sequence[Noted], footprints: Touches) -> None:
         self.history = history
         self.footprints = footprints
         calls: dict[object, list[Call]] = {}
