@@ -435,6 +435,20 @@ def fault_is_told(bench: Bench) -> None:
     require(status == 3 and lines[0].endswith(f"told.script: {told}"), f"status {status}: {lines}")
 
 
+@case("comments and strings")
+def text_is_compared(bench: Bench) -> None:
+    """With --text a script may have comments and strings, and its fault is told at the column of the text."""
+    text = b'# all of it\njoin   # one\np0 open a rw,creat\np0 write 0 "a # b"\np0 pread 0 0 9\n'
+    status, lines = says(bench, text, "--text")
+    require((status, lines[-1]) == (0, "       0 without a reason"), f"status {status}: {lines}")
+    require(any(line.startswith("1 script, ") for line in lines), f"{lines}")
+    told = "line 1 column 1: not an act, expected an act; comments and strings are read with --text"
+    status, lines = says(bench, text)
+    require(status == 3 and lines[0].endswith(f"told.script: {told}"), f"status {status}: {lines}")
+    status, lines = says(bench, text + b'  # a line of it\np0 write 0 "a" b # c\n', "--text")
+    require(status == 3 and "line 7 column 16: not an act, expected the end of" in lines[0], f"status {status}: {lines}")
+
+
 @case("a folder without a script")
 def no_script_is_told(bench: Bench) -> None:
     """A folder without a script is a wrong word."""

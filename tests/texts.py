@@ -8,6 +8,7 @@ The program is crates/fdref/out/fdref where no PATH is given. It is held against
   - `replay --text` on scripts that are written out here, with comments, strings and their faults, and on N random
     scripts (300 where no number is given) in which data stands as strings and comments are strewn: it must give
     what `replay` gives for the plain script, with data of printable bytes as strings,
+  - what stands for the same scripts in Python, as tools/compare.py --text reads them,
   - `show --text` and `show --acts --text` on traces of random scripts: what they print is read again by
     `replay --text`,
   - `show --json` on the same traces: each object, read by Python's reader, spells the line of `show`,
@@ -29,9 +30,10 @@ from typing import Any
 from parts.written_traces import random_records
 from support import plain_model
 from support.auditing import script_lines, shown
-from support.counting import Case, Count, require, same
+from support.counting import Case, Count, Failure, require, same
 from support.frames import trace_of
 from support.options import ONLY, PROGRAM, SEED, asked, count_option
+from support.plain_scripts import plain_line
 from support.running import Ran, run
 from support.sources import numbered, source
 
@@ -138,14 +140,20 @@ LEGAL = ["p0 open # rw,creat", "p0 open #a rw,creat", "p0 open a#b rw,creat", 'p
 
 
 def spelled(program: str, text: str, plain: str) -> None:
-    """A text runs as the plain script for which it stands."""
+    """A text runs as the plain script for which it stands, and tools/compare.py takes it as that."""
+    same(plain.encode("latin-1"), plain_line(text.encode("latin-1")))
     wanted = plain_model.replay(f"{SETUP}{plain}\np0 pread 0 0 99\n".encode())
     given = run([program, "replay", "--text"], f"{SETUP}{text}\np0 pread 0 0 99\n".encode("latin-1"))
     same(wanted._replace(stdout=strung_lines(wanted.stdout)), given)
 
 
 def faulty(program: str, words: Sequence[str], line: str, column: int, expected: str) -> None:
-    """A fault is told at the column of the text, with what could stand there."""
+    """A fault is told at the column of the text, with what could stand there. A plain line for it has one as well."""
+    try:
+        plain_model.read_act(plain_line(line.encode("latin-1")) if words else line.encode("latin-1"))
+        raise Failure("its plain line is an act")
+    except plain_model.NotAnAct:
+        pass
     told = f"line 4 column {column}: not an act\nexpected {expected}\n"
     same(Ran(3, b"", told.encode()), run([program, "replay", *words], f"\n{SETUP}{line}\n".encode("latin-1")))
 
@@ -285,7 +293,10 @@ def random_case(program: str, seed: str, number: int) -> None:
     records = random_records(pick)
     acts = [printable(pick, line) for line in script_lines(records)]
     wanted = plain_model.replay("\n".join(acts).encode())
-    text = "\n".join(in_text(pick, line) for line in acts).encode()
+    texts = [in_text(pick, line) for line in acts]
+    plain = [plain_model.read_act(plain_line(line.encode())) for line in texts]
+    same([plain_model.read_act(line.encode()) for line in acts], plain)
+    text = "\n".join(texts).encode()
     same(wanted._replace(stdout=strung_lines(wanted.stdout)), run([program, "replay", "--text"], text))
     lines = [line for line in wanted.stdout.decode().splitlines()[:-1] if not line.startswith("-")]
     trace = trace_of(lines)

@@ -1,7 +1,7 @@
 #!/usr/bin/env python3
 """Runs scripts on the system at hand and on fdref, and tells where they differ.
 
-usage: tools/compare.py SCRIPT-OR-FOLDER...
+usage: tools/compare.py [--text] SCRIPT-OR-FOLDER...
        tools/compare.py --random N --seed S [--first K] [--acts A] [--class small|full-pipes|all] [--summary FILE]
 
 Both take --pipe-capacity N: with as many bytes as a pipe of the system holds (65,536 on Linux) also writes that fill
@@ -10,7 +10,8 @@ pipes are compared.
 Each script is run by tools/ask_kernel.c, with a real process for each of its processes. The acts of
 the run that happened are then given to `fdref replay`, and the two are compared line by line; a `?`
 fits any number. At the end of each script acts are added that look at all that can be reached: flags,
-size and links, offset and contents of each descriptor and of each name.
+size and links, offset and contents of each descriptor and of each name. With --text scripts may have the
+comments and strings that `fdref replay --text` reads.
 
 A difference is told with the lines before it and with its reason, if there is one: the page of the
 standard, and whether the system departs from it or the profile chose (own). Where system and fdref are
@@ -36,6 +37,7 @@ from typing import Self
 from support import plain_model, summaries
 from support.commands import add_capacity, add_program, capacity_words, program_of
 from support.drivers import compiled
+from support.plain_scripts import plain_line
 from support.plain_model import Limits
 from support.running import CannotRun
 from support.runs import ALL_RECORDS, Line
@@ -194,14 +196,15 @@ def short(asked: Asked, lines: list[bytes]) -> list[bytes]:
 # ---- the whole
 
 
-def scripts_in(paths: Sequence[str]) -> Iterator[tuple[str, list[bytes]]]:
-    """Names and lines of scripts: of files, and in folders of all files named `script` or `*.script`."""
+def scripts_in(paths: Sequence[str], is_text: bool) -> Iterator[tuple[str, list[bytes]]]:
+    """Names and plain lines of scripts: of files, and in folders of all files named `script` or `*.script`."""
     for path in paths:
         if os.path.isdir(path):
             inside = [os.path.join(path, name) for name in sorted(os.listdir(path))]
-            yield from scripts_in([it for it in inside if os.path.isdir(it) or it.endswith("script")])
+            yield from scripts_in([it for it in inside if os.path.isdir(it) or it.endswith("script")], is_text)
         else:
-            yield path, [line for line in Path(path).read_bytes().split(b"\n") if line]
+            lines = Path(path).read_bytes().split(b"\n")
+            yield path, [line for line in (map(plain_line, lines) if is_text else lines) if line]
 
 
 class Acts:
@@ -302,6 +305,7 @@ def parse(words: Sequence[str]) -> argparse.Namespace:
         description=__doc__, formatter_class=argparse.RawDescriptionHelpFormatter, usage=argparse.SUPPRESS
     )
     parser.add_argument("paths", nargs="*", metavar="SCRIPT-OR-FOLDER", help="scripts, or folders of them")
+    parser.add_argument("--text", action="store_true", help="read comments and strings in these scripts")
     parser.add_argument("--random", type=int, default=0, metavar="N", help="make N random scripts")
     first = "the number of the first of them; 0 where none is given"
     parser.add_argument("--first", type=int, default=0, metavar="K", help=first)
@@ -319,12 +323,14 @@ def parse(words: Sequence[str]) -> argparse.Namespace:
     args = parser.parse_args(words)
     if args.paths and args.summary:
         parser.error("only what random scripts count is added up")
+    if args.text and not args.paths:
+        parser.error("--text is for scripts that are given")
     if not args.paths and args.random < 1:
         parser.error("no scripts: give files, folders, or --random N")
     for path in [*args.paths, *([args.keep] if args.keep else [])]:
         if not os.path.exists(path):
             parser.error(f"there is no {path}")
-    args.scripts = list(scripts_in(args.paths))
+    args.scripts = list(scripts_in(args.paths, args.text))
     if args.paths and not args.scripts:
         parser.error(f"there is no file named script or *.script in {', '.join(args.paths)}")
     return args
@@ -332,7 +338,7 @@ def parse(words: Sequence[str]) -> argparse.Namespace:
 
 def check_all(args: argparse.Namespace, totals: Totals, driver: str) -> None:
     """Compares all scripts that are asked for."""
-    asked = Asked(args.command, shlex.split(driver), args.limits)
+    asked = Asked(args.command, shlex.split(driver), args.limits, args.text)
     for name, lines in args.scripts:
         check_one(asked, totals, name, lines, False, args.keep)
     for number in range(args.first, args.first + args.random):

@@ -78,10 +78,13 @@ def fits(system: Line, fdref: Line, asked: "Asked") -> bool:
 class Asked:
     """The driver and fdref, as they are called."""
 
-    def __init__(self, program: list[str], driver: list[str], limits: Limits = DEFAULTS) -> None:
+    def __init__(
+        self, program: list[str], driver: list[str], limits: Limits = DEFAULTS, is_text: bool = False
+    ) -> None:
         self.program = program
         self.driver = driver
         self.limits = limits
+        self.is_text = is_text
         self.has_same_room = self.room() == limits.capacity
         self.counts_bytes = self.room(3_000, 3_000) == self.room()
 
@@ -114,7 +117,8 @@ class Asked:
     def fault(self, path: str) -> str:
         """The fault of a script, as fdref tells it: its line, its column and what could stand there."""
         try:
-            done = run([*self.program, "replay"], Path(path).read_bytes(), seconds=SECONDS)
+            words = [*self.program, "replay", *(["--text"] if self.is_text else [])]
+            done = run(words, Path(path).read_bytes(), seconds=SECONDS)
         except (Failure, OSError):
             return "not a script"
         lines = done.stderr.decode("ascii", "replace").splitlines()
