@@ -31,8 +31,9 @@ order of its own calls. A program that is started by system, popen or posix_spaw
 fdref, and is not compared, which is told. Where a difference with a reason leaves system and fdref apart,
 answers that differ later may follow from it, where they have to do with a descriptor, a file or a name that
 it can have reached: they are counted, and the first is told. Where with fdref all processes wait for two
-seconds, one of them in a write that would go into a pipe of 65,536 bytes, they are killed; a parent may
-wait for a child meanwhile. At last fdref audits the trace of its server.
+seconds, one of them in a write that would go into a pipe of 65,536 bytes, or in a call that a signal would
+end, which is told at once, they are killed; a parent may wait for a child meanwhile. At last fdref audits the
+trace of its server.
 
 Where processes or threads act at once, their answers depend on who is first. So where one differs an order of
 the system's own calls is searched for, in which the model of fdref gives all its answers: each process or
@@ -242,27 +243,31 @@ class Both(NamedTuple):
 
 
 class Looker:
-    """Looks at a program while it runs with fdref, and tells as soon as threads wait for another one, once."""
+    """Looks at a program while it runs with fdref, and tells at once, of each kind the first, that threads wait for
+    another one, and that a signal came in a call that waits."""
 
     def __init__(self, still: Standstill, noted: Path) -> None:
         self.still = still
         self.noted = noted
         self.size = 0
-        self.is_told = False
+        self.has_told: set[Callable[[list[past.Past]], list[str]]] = set()
 
     def is_over(self) -> bool:
         """Whether the program is to be killed."""
         size = self.noted.stat().st_size
-        if not self.is_told and size != self.size:
+        if size != self.size:
             self.size = size
-            self.tell()
+            every = past.past_of(self.noted.read_bytes())
+            self.tell(every)
+            self.still.interrupted = past.interrupted(every)
         return self.still.is_met()
 
-    def tell(self) -> None:
-        """Tells the first thread that waits, if one is noted."""
-        for told in past.told_threads(past.past_of(self.noted.read_bytes()))[:1]:
-            self.is_told = True
-            print(f"judge.py: {told}", file=sys.stderr, flush=True)
+    def tell(self, every: list[past.Past]) -> None:
+        """Tells the first of each kind, if one is noted."""
+        for kind in (past.told_threads, past.told_interrupts):
+            for told in kind(every)[:1] if kind not in self.has_told else ():
+                self.has_told.add(kind)
+                print(f"judge.py: {told}", file=sys.stderr, flush=True)
 
 
 class Job:

@@ -19,6 +19,8 @@ CALL, STDIO, THREAD, PROGRAM, STREAM, PATH = "call", "stdio", "thread", "program
 SIGNAL = "signal"
 # A vfork, which the shim makes a fork of in both runs.
 VFORK = "vfork"
+# A signal in a call that waits, which it would have ended in the system.
+INTERRUPT = "interrupt"
 COUNTED = {PATH: "path", STREAM: "stream", PROGRAM: "program", CALL: "other call"}
 
 # Calls that change nothing, and tell a program nothing else than natively, or nothing that it goes by.
@@ -68,7 +70,7 @@ class Past(NamedTuple):
         parting = finding.parting
         if self.kind in (THREAD, PROGRAM):
             return True
-        if self.kind in (SIGNAL, VFORK):
+        if self.kind in (SIGNAL, VFORK, INTERRUPT):
             return False
         if LOOKS.fullmatch(self.call):
             return False
@@ -199,6 +201,17 @@ def doubt(every: list[Past]) -> str:
 def signals(every: list[Past]) -> list[int]:
     """The signals that ended children."""
     return sorted({int(it.call) for it in every if it.kind == SIGNAL})
+
+
+def interrupted(every: list[Past]) -> dict[int, int]:
+    """Of each process the place of the record after which a signal came last in a call of it that waits."""
+    return {it.number: it.place for it in every if it.kind == INTERRUPT}
+
+
+def told_interrupts(every: list[Past]) -> list[str]:
+    """In which calls that wait signals came."""
+    calls = sorted({it.call for it in every if it.kind == INTERRUPT})
+    return [f"a signal comes while {call} waits, and ends no call of fdref" for call in calls]
 
 
 def told_threads(every: list[Past]) -> list[str]:

@@ -1,10 +1,11 @@
 """Whether a program stands still with fdref and would go on with the system: all its processes wait in calls, one of
-them in a write for which a pipe of fdref is too small. A parent may wait for the end of its children instead."""
+them in a write for which a pipe of fdref is too small, or in a call that a signal would have ended. A parent may wait
+for the end of its children instead."""
 
 import contextlib
 import os
 import time
-from collections.abc import Callable
+from collections.abc import Callable, Mapping
 from pathlib import Path
 from typing import NamedTuple
 
@@ -40,28 +41,31 @@ def seen_beside(server: int) -> Seen:
 
 
 class Standstill:
-    """Looks at the trace of a server that runs; `told` says what its processes stand still at, once they do."""
+    """Looks at the trace of a server that runs, and at the signals in its calls that wait, of each process the place of
+    the record before; `told` says what its processes stand still at, once they do."""
 
     def __init__(self, trace: str, look: Callable[[], Seen]) -> None:
         self.trace = trace
         self.look = look
         self.told = ""
-        self.size = -1
+        self.interrupted: Mapping[int, int] = {}
+        self.known: tuple[int, Mapping[int, int]] = (-1, {})
         self.since = 0.0
         self.is_known = False
 
     def is_met(self) -> bool:
-        """Whether the processes stand still. Each length of the trace is judged once, after it stayed for a while."""
-        size, now = os.path.getsize(self.trace), time.monotonic()
-        if size != self.size:
-            self.size, self.since, self.is_known = size, now, False
+        """Whether the processes stand still. Each length of the trace is judged once, after it stayed for a while, and
+        again after a signal."""
+        known, now = (os.path.getsize(self.trace), self.interrupted), time.monotonic()
+        if known != self.known:
+            self.known, self.since, self.is_known = known, now, False
         elif not self.is_known and now - self.since >= STILL_SECONDS:
             self.is_known = True
-            self.told = told(Path(self.trace).read_bytes(), self.look)
+            self.told = told(Path(self.trace).read_bytes(), self.look, self.interrupted)
         return bool(self.told)
 
 
-def told(trace: bytes, look: Callable[[], Seen]) -> str:
+def told(trace: bytes, look: Callable[[], Seen], interrupted: Mapping[int, int]) -> str:
     """What the processes of a trace stand still at, or nothing where they may go on: one is in no call, and is no
     parent that waits for a child, or there is one that fdref does not know."""
     frames = Frames(trace)
@@ -72,9 +76,10 @@ def told(trace: bytes, look: Callable[[], Seen]) -> str:
     live = judge.world.processes.values()
     going = [it for it in live if not (it.attached and it.waits and not it.waits.is_ready(judge.world))]
     small = next((it for it in live if is_for_want_of_room(it, judge.world)), None)
-    if not small or any(it.waits for it in going) or (going and look() != Seen(len(live), len(going))):
+    ended = next((it for it in live if it.waits and interrupted.get(it.number) == last_place(it, lines)), None)
+    if not (small or ended) or any(it.waits for it in going) or (going and look() != Seen(len(live), len(going))):
         return ""
-    return told_write(small, lines, judge.world)
+    return told_write(small, lines, judge.world) if small else told_signal(ended, lines) if ended else ""
 
 
 def is_for_want_of_room(process: Process, world: World) -> bool:
@@ -85,11 +90,26 @@ def is_for_want_of_room(process: Process, world: World) -> bool:
     return len(call.pipe.data) + len(call.data) - call.moved <= PIPE_CAPACITY_MOST
 
 
+def last_place(process: Process, lines: list[Line]) -> int:
+    """The place of the last record of a process."""
+    return next(place for place in reversed(range(len(lines))) if lines[place].number() == process.number)
+
+
+def call_of(process: Process, lines: list[Line]) -> Line:
+    """The call that a process waits in."""
+    who = f"p{process.number} "
+    return next(it for it in reversed(lines) if it.act.startswith(who) and it.act != f"{who}resume")
+
+
+def told_signal(process: Process, lines: list[Line]) -> str:
+    """The call that a process waits in, which a signal would have ended."""
+    return f"stood still, and was killed: {call_of(process, lines).act}, which a signal ends in the system alone"
+
+
 def told_write(process: Process, lines: list[Line], world: World) -> str:
     """The write that a process waits in, for a reader."""
     assert process.waits
-    who = f"p{process.number} "
-    call = next(it for it in reversed(lines) if it.act.startswith(who) and it.act != f"{who}resume")
+    call = call_of(process, lines)
     room = f"a pipe of fdref holds {world.limits.capacity:,} bytes (--pipe-capacity {PIPE_CAPACITY_MOST})"
     where = f"{call.act}, of which {process.waits.moved:,} bytes went in"
     return f"stood still, and was killed: {where}: {room}"

@@ -19,8 +19,8 @@
                         `! 6 p0 thread read`. In `! 6 p0 call poll<tab>3` it is a descriptor of fdref. Where
                         FDREF_STRICT would not tell it `-` stands for `!`: `- 6 p0 stream fopen<tab>/tmp/x`, and
                         `- 6 p0 stdio 1`, as a file of fdref comes to be at descriptor 0, 1 or 2. `- 6 p0 signal 11`
-                        is a child that a signal ended, as wait, waitid or waitpid told, and `- 6 p0 vfork fork` a
-                        vfork.
+                        is a child that a signal ended, as wait, waitid or waitpid told, `- 6 p0 vfork fork` a vfork,
+                        and `- 6 p0 interrupt read` a signal in a call that waits, whose handler restarts none.
 
    Without the first two nothing is changed. Where there is no answer (no server, no place at it for one more process, a
    run that is full, a lost connection) that is told on standard error, and the program ends with status 124.

@@ -77,6 +77,8 @@ static void find_all(void)
 #define write system_write
 #define fcntl system_fcntl
 #define poll(parts, count, ms) system_poll(parts, count, ms)
+#define recv(socket, to, size, flags) heard(socket, to, size, flags)
+static ssize_t heard(int socket, void *to, size_t size, int flags);
 #pragma GCC visibility push(hidden)
 #define FDREF_IMPLEMENTATION
 #include "../c/fdref.h"
@@ -86,6 +88,7 @@ static void find_all(void)
 #undef write
 #undef fcntl
 #undef poll
+#undef recv
 
 /* ---- how it is used, and what is told */
 
@@ -235,6 +238,18 @@ static void make_way(int to)
 static const char *const words[] = {"open", "close", "read", "write", "pread", "pwrite", "lseek", "ftruncate", "dup",
                                     "dup2", "pipe", "mkfifo", "link", "unlink", "fstat", "fork", "getfl", "setfl",
                                     "rename"};
+
+/* Receives for the client, and notes once that a signal came while a call waits, which ends none of fdref. */
+static ssize_t heard(int socket, void *to, size_t size, int flags)
+{
+    static uint64_t interrupted = UINT64_MAX;
+    ssize_t some = recv(socket, to, size, flags);
+    if (some < 0 && errno == EINTR && process && process->is_parked && process->place != interrupted) {
+        interrupted = process->place;
+        goes_past('-', "interrupt", words[process->act - FDREF_OPEN], NULL);
+    }
+    return some;
+}
 
 /* The longest line has all bytes of a transfer, or two names. */
 static char line[2 * FDREF_TRANSFER_MOST + 2 * 3 * FDREF_NAME_MOST + 300];

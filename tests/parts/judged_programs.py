@@ -118,6 +118,7 @@ STILL = (
 NEITHER = "neither ended in 2 seconds: both were killed"
 WELL = "both ended with status 0"
 THREAD = b"judge.py: a thread waits in read, and no other one can make a call meanwhile\n"
+SIGNAL = b"judge.py: a signal comes while read waits, and ends no call of fdref\n"
 BAD_ADDRESS = "a crash (SIGSEGV) is no agreement: with the shim a bad address is no EFAULT"
 
 PROGRAMS = [
@@ -301,12 +302,13 @@ PROGRAMS = [
         1,
         (
             "system: ended with status 0",
-            "fdref:  did not end in 2 seconds, and was killed",
+            "fdref:  stood still, and was killed: p0 read 4 1, which a signal ends in the system alone",
             "system: p0 read 4 1 = error EINTR",
             "fdref:  7 p0 read 4 1 = parked 0",
             "reason: a signal ends a call (EINTR), and signals are outside fdref (own; XSH 2.4.4)",
         ),
-        SOON,
+        LATE,
+        SIGNAL,
     ),
     Judged("signals", ("aborts",), 3, ("both ended by signal 6", "a crash (SIGABRT) is no agreement", "1 call")),
     Judged("signals", ("stops",), 0, ("both ended by signal 15", "1 call of 1 process: no answer differs")),
