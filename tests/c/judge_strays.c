@@ -1,6 +1,7 @@
 /* Does what the answers of no two systems agree on.
 
-   usage: judge_strays call|answer|output|leaves-out|passes|spawns|starts|stdio|closes|streams|threads|looks|vforks|copies
+   usage: judge_strays call|answer|output|leaves-out|passes|spawns|starts|stdio|closes|streams|threads|looks|vforks
+                      |copies
 
    call        writes the number of its process into a file
    answer      changes a file by a system call that no library sees, and asks for the size of it

@@ -14,7 +14,7 @@ from pathlib import Path
 from typing import NamedTuple
 
 from parts.c_programs import WARNINGS, compiles
-from support.counting import Case, Failure, require, same
+from support.counting import Case, require, same
 from support.places import C_TESTS, TOOLS, TOP
 from support.running import Ran, run
 
@@ -86,9 +86,6 @@ class Bench:
 
 
 # ---- programs
-
-
-RACE_TRIES = 3
 
 
 class Judged(NamedTuple):
@@ -365,19 +362,7 @@ PROGRAMS = [
 
 
 def is_said(bench: Bench, judged: Judged) -> None:
-    """Just this is said of a program. A race comes out otherwise each time, and it may be that nothing is decided of one
-    on a busy machine: so it has more tries."""
-    for left in reversed(range(RACE_TRIES if judged.name == "races" else 1)):
-        try:
-            says(bench, judged)
-            return
-        except Failure:
-            if not left:
-                raise
-
-
-def says(bench: Bench, judged: Judged) -> None:
-    """Just this is said of a run of a program."""
+    """Just this is said of a program."""
     program = bench.compiled(f"judge_{judged.name}")
     ran = bench.judged("--shim", bench.shim(), *judged.options, program, *judged.words)
     same((judged.status, judged.stderr), (ran.status, ran.stderr))

@@ -11,11 +11,11 @@ from support.lanes import Lane
 from support.plain_model import DEFAULTS
 from support.replaying import verified
 from support.searching import Step
-from support.sources import numbered, source
+from support.sources import source
 from support.worlds import States
 
 from parts.made_histories import TICK
-from parts.random_histories import answer_of_another, other_answer
+from parts.random_histories import answer_of_another, of_kinds, other_answer
 from thread_order import ThreadSearch
 
 STATES_MOST, SECONDS = 200_000, 60
@@ -144,6 +144,4 @@ def is_right(program: str, kind: str, seed: str, number: int) -> None:
 
 def cases(program: str, seed: str, count: int) -> Iterator[Case]:
     """So many histories of each kind."""
-    for kind in SETUPS:
-        for number in range(count):
-            yield numbered(kind, seed, number), partial(is_right, program, kind, seed, number)
+    return of_kinds(SETUPS, seed, count, partial(is_right, program))

@@ -2,7 +2,7 @@
 
 import random
 import time
-from collections.abc import Callable, Iterator, Sequence
+from collections.abc import Callable, Iterable, Iterator, Sequence
 from functools import partial
 
 from parts.all_orders import has_order
@@ -125,11 +125,18 @@ def is_right(program: str, kind: str, seed: str, number: int) -> None:
         raise Failure(f"{fault}, for\n{history_text(history)}") from None
 
 
+def of_kinds(
+    kinds: Iterable[str], seed: str, count: int, check: Callable[[str, str, int], None]
+) -> Iterator[Case]:
+    """A check of so many histories of each kind."""
+    for kind in kinds:
+        for number in range(count):
+            yield numbered(kind, seed, number), partial(check, kind, seed, number)
+
+
 def cases(program: str, seed: str, count: int) -> Iterator[Case]:
     """So many histories of each kind."""
-    for kind in KINDS:
-        for number in range(count):
-            yield numbered(kind, seed, number), partial(is_right, program, kind, seed, number)
+    return of_kinds(KINDS, seed, count, partial(is_right, program))
 
 
 # ---- what is left out leaves an order
@@ -159,9 +166,7 @@ def keeps_orders(kind: str, seed: str, number: int) -> None:
 
 def left_out_cases(seed: str, count: int) -> Iterator[Case]:
     """So many histories of each kind, of which something is left out."""
-    for kind in KINDS:
-        for number in range(4 * count):
-            yield numbered(kind, seed, number), partial(keeps_orders, kind, seed, number)
+    return of_kinds(KINDS, seed, 4 * count, keeps_orders)
 
 
 # ---- large histories

@@ -34,7 +34,7 @@ class Shared:
         self.history = [noted._replace(act=noted.act._replace(actor=at)) for at, noted in calls]
         self.names = Names(self.history)
         self.forks = {noted.outcome: place for place, (_, noted) in enumerate(calls) if noted.act.word == "fork"}
-        # by process and descriptor, the places of the calls that have put something there, or have closed what was there
+        # by process and descriptor, the places of the calls that have put something there, or closed what was there
         self.makers: dict[tuple[int, int], list[int]] = {}
         self.enders: dict[tuple[int, int], list[int]] = {}
         for place, noted in enumerate(self.history):
