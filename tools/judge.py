@@ -41,8 +41,7 @@ thread keeps its order, a fork is before the first call of its child, and a call
 one began is before it. It is run through fdref then. If there is one, the two agree as far as that goes; if
 there is none, they do not. After 20 seconds or 100,000 states the search is given up, and it decides nothing
 where what has no line may be why it found none: that is told. Then a read of a pipe may have the reason that
-it depends on who comes first, and other answers that differ without a reason are not judged where orders were
-left that were not tried.
+it depends on who comes first, and other answers that differ without a reason are not judged.
 
 The processes of a program may come in another order in the next run, and where its answers depend on
 that, so may what is told of it.
@@ -372,9 +371,8 @@ class Verdict:
         return self.unexplained is not None and not self.is_open()
 
     def is_open(self) -> bool:
-        """Whether an order that was not tried may explain an answer that has no reason."""
-        is_undecided = self.order is not None and self.order.is_found is None and not self.order.has_tried_all
-        return is_undecided and self.unexplained is not None
+        """Whether it is not decided that no order explains an answer that has no reason."""
+        return self.unexplained is not None and self.order is not None and self.order.is_found is None
 
     def reason_of(self, finding: Finding) -> Reason | None:
         """The reason of a finding. Who comes first is none where no order explains the answers."""

@@ -44,12 +44,11 @@ OTHERS = "an order of these calls gives all other answers of the system"
 
 class Ordered(NamedTuple):
     """Whether an order was found: `is_found`, or None where that was not decided, and what is said of it. It is whole
-    where it gives all answers, and those that have a reason too. Where none was found all were tried, or not."""
+    where it gives all answers, and those that have a reason too."""
 
     is_found: bool | None
     said: str
     is_whole: bool = False
-    has_tried_all: bool = True
 
     def told(self) -> str:
         """The line that tells it."""
@@ -60,14 +59,6 @@ class Ordered(NamedTuple):
 
 class Open(Exception):
     """Why it is not decided."""
-
-    has_tried_all = False
-
-
-class Doubtful(Open):
-    """What may be why there is no order."""
-
-    has_tried_all = True
 
 
 # ---- what the shim asked aside
@@ -349,7 +340,7 @@ def ordered_of(compared: Compared, program: list[str], doubt: str) -> Ordered | 
     try:
         return found_for(compared, program, doubt)
     except Open as why:
-        return Ordered(None, str(why), has_tried_all=why.has_tried_all)
+        return Ordered(None, str(why))
 
 
 def found_for(compared: Compared, program: list[str], doubt: str) -> Ordered:
@@ -370,5 +361,5 @@ def found_for(compared: Compared, program: list[str], doubt: str) -> Ordered:
     }
     why = next((why for why, holds in doubts.items() if holds), "")
     if why:
-        raise Doubtful(f"none was found, but {why} may be why")
+        raise Open(f"none was found, but {why} may be why")
     return Ordered(False, f"no {(OTHERS if builder.unknown else AN_ORDER).removeprefix('an ')}")

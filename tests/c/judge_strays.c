@@ -66,6 +66,12 @@ static int starts(int fd)
     return !input || fputs("text", input) < 0 || pclose(input) != 0;
 }
 
+static int fails_with(const char *what, int fd)
+{
+    return (strcmp(what, "passes") == 0 && passes(fd) != 0) || (strcmp(what, "copies") == 0 && copies(fd) != 0)
+        || (strcmp(what, "starts") == 0 && starts(fd) != 0);
+}
+
 static int ends[2];
 
 static void *wait_for_byte(void *unused)
@@ -109,13 +115,9 @@ int main(int count, char **words)
         printf("%s", text);
     if (strcmp(what, "spawns") == 0 && system("exit 3") == 0)
         return 1;
-    if (strcmp(what, "starts") == 0 && starts(fd) != 0)
+    if (fails_with(what, fd))
         return 1;
     if (strcmp(what, "leaves-out") == 0 && symlink("a", "b") != 0)
-        return 1;
-    if (strcmp(what, "passes") == 0 && passes(fd) != 0)
-        return 1;
-    if (strcmp(what, "copies") == 0 && copies(fd) != 0)
         return 1;
     if (strcmp(what, "streams") == 0)
         streams();

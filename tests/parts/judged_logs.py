@@ -529,8 +529,8 @@ ORDERS = [
         TWO + EXCL.format("error EEXIST"),
         TWO_HERE + EXCL_HERE,
         f"{OPEN_ORDER}none was found, but fopen of l, which went past fdref, may be why",
-        f"a difference: 1 answer differs without a reason, perhaps by fopen of l, which went past fdref; {NOT_DECIDED}",
-        1,
+        f"not judged: 1 answer differs without a reason, perhaps by fopen of l, which went past fdref; {NOT_DECIDED}",
+        3,
         "! 1 p0 stream fopen\tl",
     ),
     Orders(
