@@ -239,6 +239,8 @@ class Both(NamedTuple):
     past: bytes = b""
     # what it stood still at with fdref, if it did
     still: str = ""
+    # what was noted of the run on the system beside its calls
+    system_past: bytes = b""
 
 
 class Looker:
@@ -320,8 +322,12 @@ class Job:
         if fdref.status == NOT_ASKED and said:
             lost = f"the server gave no answer: {said[-1].decode('utf-8', 'replace')}"
             raise CannotJudge("; ".join([lost, *past.told_past(past.past_of(noted.read_bytes()))]))
-        system, system_log = self.ran("system", FDREF_STARTS="1")
-        return Both(system, fdref, system_log, fdref_log, trace, noted.read_bytes(), still.told)
+        cuts = Path(self.folder, "cuts")
+        cuts.touch()
+        system, system_log = self.ran("system", FDREF_STARTS="1", FDREF_PAST=str(cuts))
+        return Both(
+            system, fdref, system_log, fdref_log, trace, noted.read_bytes(), still.told, cuts.read_bytes()
+        )
 
     def audited(self) -> str:
         """What the audit says of the trace."""
@@ -362,6 +368,8 @@ class Verdict:
         """Whether some order of the calls of several processes explains the answers of the system."""
         is_killed = self.both.system.status is None or past.signals(self.past)
         doubt = "a process that was killed" if is_killed else past.doubt(self.past)
+        if not doubt and past.cuts(past.past_of(self.both.system_past)):
+            doubt = "a call of a thread that the end of its process cut off"
         return some_order.ordered_of(self.compared, program, doubt)
 
     def differs(self) -> bool:

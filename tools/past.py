@@ -19,6 +19,8 @@ CALL, STDIO, THREAD, PROGRAM, STREAM, PATH = "call", "stdio", "thread", "program
 SIGNAL = "signal"
 # A vfork, which the shim makes a fork of in both runs.
 VFORK = "vfork"
+# The end of a native process beside threads of it that may have been in a call, which has no line then.
+CUT = "cut"
 # A signal in a call that waits, which it would have ended in the system.
 INTERRUPT = "interrupt"
 COUNTED = {PATH: "path", STREAM: "stream", PROGRAM: "program", CALL: "other call"}
@@ -196,6 +198,11 @@ def doubt(every: list[Past]) -> str:
     kinds = (CALL, STDIO, PROGRAM, PATH, STREAM)
     likely = [it for it in every if it.kind in kinds and not LOOKS.fullmatch(it.call)]
     return f"{likely[0].said(' of ')}, which went past fdref," if likely else ""
+
+
+def cuts(every: list[Past]) -> bool:
+    """Whether a process ended while threads of it may have been in a call."""
+    return any(it.kind == CUT for it in every)
 
 
 def signals(every: list[Past]) -> list[int]:

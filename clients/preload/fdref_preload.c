@@ -20,7 +20,9 @@
                         FDREF_STRICT would not tell it `-` stands for `!`: `- 6 p0 stream fopen<tab>/tmp/x`, and
                         `- 6 p0 stdio 1`, as a file of fdref comes to be at descriptor 0, 1 or 2. `- 6 p0 signal 11`
                         is a child that a signal ended, as wait, waitid or waitpid told, `- 6 p0 vfork fork` a vfork,
-                        and `- 6 p0 interrupt read` a signal in a call that waits, whose handler restarts none.
+                        and `- 6 p0 interrupt read` a signal in a call that waits, whose handler restarts none. In a
+                        native run only `- 0 p0 cut exit` is there: a process ended while others of its threads may have
+                        been in a call.
 
    Without the first two nothing is changed. Where there is no answer (no server, no place at it for one more process, a
    run that is full, a lost connection) that is told on standard error, and the program ends with status 124.

@@ -346,12 +346,43 @@ static void put_outcome(const struct fdref_outcome *outcome)
     }
 }
 
-/* Which thread of its process this one is, of those that have a line of a native run, from 1 on. */
+/* Which thread of its process this one is, of those that have a line of a native run, from 1 on; and how many of these
+   have not ended. */
 static __thread int thread_number;
-static int threads;
+static int threads, live_threads;
+static pthread_key_t ends_with_thread;
+
+static void thread_ends(void *unused)
+{
+    (void)unused;
+    __atomic_fetch_sub(&live_threads, 1, __ATOMIC_SEQ_CST);
+}
+
+static void number_thread(void)
+{
+    thread_number = ++threads;
+    __atomic_fetch_add(&live_threads, 1, __ATOMIC_SEQ_CST);
+    pthread_setspecific(ends_with_thread, &threads);
+}
 
 /* In a child only the thread that forked is there. */
-static void forget_threads(void) { threads = thread_number = 0; }
+static void forget_threads(void)
+{
+    threads = live_threads = thread_number = 0;
+    pthread_setspecific(ends_with_thread, NULL);
+}
+
+/* Notes that a native process ends while other threads may be in a call, which has an effect then, and no line. */
+static void note_cut(void)
+{
+    char text[40];
+    int size, others = __atomic_load_n(&live_threads, __ATOMIC_SEQ_CST) - (thread_number > 0);
+    if (how != NATIVE || past_file < 0 || others <= 0)
+        return;
+    size = snprintf(text, sizeof text, "- 0 p%lu cut exit\n", (unsigned long)native_number);
+    if (system_write(past_file, text, (size_t)size) != size)
+        end_with(NO_ANSWER, "the end of threads cannot be noted: %s", strerror(errno));
+}
 
 /* How long the log was before this thread began its call, where that is told in a native run. */
 static int tells_starts;
@@ -371,7 +402,8 @@ static void put_no_place(void)
     put("-");
     if (how != NATIVE)
         return;
-    thread_number = thread_number ? thread_number : ++threads;
+    if (!thread_number)
+        number_thread();
     if (thread_number > 1)
         put("%d", thread_number - 1);
     if (tells_starts)

@@ -283,6 +283,7 @@ static int64_t look_by_name(const char *name, struct file *file)
 /* The exit is recorded when this returns. Where another thread waits in a call it comes with the end of the program. */
 static void end(void)
 {
+    note_cut();
     if (how != ASKED || (is_held && pthread_equal(owner, pthread_self())) || pthread_mutex_trylock(&mutex) != 0)
         return;
     how = ENDED;
@@ -455,7 +456,9 @@ static void prepare(void)
     how = socket_named ? ASKED : log_named ? NATIVE : OFF;
     if (log_named)
         log_file = opened_log(log_named);
-    if (how == ASKED && past_named)
+    if (how == NATIVE)
+        pthread_key_create(&ends_with_thread, thread_ends);
+    if ((how == ASKED || how == NATIVE) && past_named)
         past_file = opened_log(past_named);
     if (how == ASKED)
         snprintf(socket_path, sizeof socket_path, "%s", socket_named);
@@ -467,7 +470,7 @@ static void prepare(void)
         setenv("FDREF_BEGUN", "1", 1);
     if (how == ASKED && !is_handed)
         join();
-    if (how == ASKED)
+    if (how == ASKED || how == NATIVE)
         end_at_last();
     errno = error;
 }

@@ -1,12 +1,13 @@
 /* Has processes or threads that act at once, and what each of them gets depends on who is first.
 
-   usage: judge_races excl|appends|offset|pipe|threads
+   usage: judge_races excl|appends|offset|pipe|threads|leaves
 
    excl     three children make a file by O_EXCL
    appends  two children append to a file, which is read then
    offset   two children write by one offset
    pipe     two children write to a pipe, which is read then
-   threads  three threads open files, and write by one offset */
+   threads  three threads open files, and write by one offset
+   leaves   a child ends while a thread of it writes, again and again */
 
 #define _DEFAULT_SOURCE
 
@@ -55,6 +56,27 @@ static int run_threads(void)
     return failures;
 }
 
+static void *write_on(void *unused)
+{
+    while (write(shared, "w", 1) == 1)
+        continue;
+    return unused;
+}
+
+/* The child ends once its thread has written. */
+static int leave(void)
+{
+    pthread_t writer;
+    int status;
+    if (fork() == 0) {
+        int failure = pthread_create(&writer, NULL, write_on, NULL);
+        while (failure == 0 && lseek(shared, 0, SEEK_CUR) == 0)
+            usleep(1000);
+        _exit(failure);
+    }
+    return wait(&status) < 0 || status != 0;
+}
+
 /* The children begin together, once nobody can write to the pipe that they read. */
 static int run_children(const char *what)
 {
@@ -82,6 +104,8 @@ int main(int count, char **words)
     shared = open("a", O_RDWR | O_CREAT, 0600);
     if (shared < 0 || pipe(ends) != 0)
         return 1;
+    if (strcmp(what, "leaves") == 0)
+        return leave();
     failures = strcmp(what, "threads") == 0 ? run_threads() : run_children(what);
     close(ends[1]);
     fd = strcmp(what, "pipe") == 0 ? ends[0] : open("a", O_RDONLY);

@@ -403,12 +403,21 @@ def is_kept(bench: Bench) -> None:
     same((0, b""), (audit.status, audit.stderr))
 
 
-def names_threads(bench: Bench) -> None:
-    """The log of a native run tells threads apart: each of three opens a file of its own, and writes eight times."""
+def noted_natively(bench: Bench, word: str) -> tuple[list[list[str]], str]:
+    """The lines of the log of a race that runs natively, and what else is noted of it."""
     with tempfile.TemporaryDirectory(prefix="fdref-") as folder:
-        env = ["env", f"LD_PRELOAD={bench.shim()}", f"FDREF_LOG={folder}/log"]
-        same(0, run([*env, bench.compiled("judge_races"), "threads"], seconds=SECONDS, folder=folder).status)
-        lines = [line.split(" ") for line in Path(folder, "log").read_text(encoding="ascii").splitlines()]
+        env = ["env", f"LD_PRELOAD={bench.shim()}", f"FDREF_LOG={folder}/log", f"FDREF_PAST={folder}/past"]
+        same(0, run([*env, bench.compiled("judge_races"), word], seconds=SECONDS, folder=folder).status)
+        log, noted = (Path(folder, name).read_text(encoding="ascii") for name in ("log", "past"))
+    return [line.split(" ") for line in log.splitlines()], noted
+
+
+def names_threads(bench: Bench) -> None:
+    """The log of a native run tells threads apart: each of three opens a file of its own, and writes eight times. That
+    a process ends beside a thread is noted."""
+    same("- 0 p1 cut exit\n", noted_natively(bench, "leaves")[1])
+    lines, noted = noted_natively(bench, "threads")
+    same("", noted)
     words = {place: [it[2] for it in lines if it[0] == place] for place in ("-1", "-2", "-3")}
     same(dict.fromkeys(words, ["open", *["write"] * 8, "close"]), words)
     same({"-", *words}, {it[0] for it in lines})
