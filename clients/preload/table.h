@@ -140,12 +140,26 @@ static uint64_t inode_of_pipe(void)
 
 /* ---- asking */
 
+/* The thread that has ended its process in fdref. */
+static pthread_t ender;
+
+/* Lets another thread wait until its process ends in the system, too. */
+static void wait_for_end(void)
+{
+    is_held = 0;
+    pthread_mutex_unlock(&mutex);
+    for (;;)
+        pause();
+}
+
 /* Makes a call that is not logged. An answer that is none ends the program. */
 static int64_t ask_aside(struct fdref_act act, void *buffer, uint64_t most)
 {
     int64_t value = process ? fdref_ask(process, act, buffer, most) : -1;
     const char *word = words[act.kind - FDREF_OPEN];
     int error = errno, refusal = process ? fdref_refusal(process) : FDREF_LOST;
+    if (how == ENDED && !pthread_equal(ender, pthread_self()))
+        wait_for_end();
     if (value >= 0 || refusal <= FDREF_UNSENT)
         return value;
     if (!process)
@@ -287,6 +301,7 @@ static void end(void)
     if (how != ASKED || (is_held && pthread_equal(owner, pthread_self())) || pthread_mutex_trylock(&mutex) != 0)
         return;
     how = ENDED;
+    ender = pthread_self();
     fdref_exit(process);
     process = NULL;
     pthread_mutex_unlock(&mutex);

@@ -24,6 +24,7 @@ SECONDS = 60
 SESSIONS = ("--sessions", "8")
 GOING = 5.0
 A_LINE = "a line of its own\n"
+TRIES = 3
 
 
 class Bench:
@@ -380,6 +381,7 @@ def cases(bench: Bench) -> Iterator[Case]:
     yield "a thread that waits, at once", partial(tells_at_once, bench)
     yield "writes that are torn", partial(finds_torn_writes, bench)
     yield "threads in a log", partial(names_threads, bench)
+    yield "a process that ends beside a thread", partial(ends_beside_threads, bench)
     yield "what is kept, and standard input", partial(is_kept, bench)
     yield "standard input that is not read", partial(tells_unread, bench)
     yield "what --strict would tell", partial(tells_of_strict, bench)
@@ -421,6 +423,14 @@ def names_threads(bench: Bench) -> None:
     words = {place: [it[2] for it in lines if it[0] == place] for place in ("-1", "-2", "-3")}
     same(dict.fromkeys(words, ["open", *["write"] * 8, "close"]), words)
     same({"-", *words}, {it[0] for it in lines})
+
+
+def ends_beside_threads(bench: Bench) -> None:
+    """A process that ends while a thread of it writes ends as on the system, and makes no difference, though that write
+    may have no line."""
+    for _ in range(TRIES):
+        ran = bench.judged("--shim", bench.shim(), bench.compiled("judge_races"), "leaves")
+        require(ran.status in (0, 3) and ran.stdout.startswith(f"{WELL}\n".encode()), ran.said())
 
 
 def finds_torn_writes(bench: Bench) -> None:
