@@ -52,7 +52,7 @@ WALKS = (
         "job_core/src/replay.rt",
         "replay",
         {"Call": "Pwrite", "Act": "Call", "ScriptAct": "Call", "FileEdit": "Bytes", "Spelling": "Plain"},
-        Most(427, 87, 26),
+        Most(427, 85, 26),
         "read_text run_script gather_lines run_all next_act read_act pwrite_call run_next run_act start_copy "
         "start_refusal record_call decide_call decide_pwrite opened pwrite_fault puts append reserve_for shared_at "
         "bytes_moved push apply write_bytes write put_line write_record put_pwrite put_outcome write_totals "
@@ -63,7 +63,7 @@ WALKS = (
         "session_core/src/serve.rt",
         "serve",
         {"Call": "Write", "Act": "Call", "Request": "Call", "FileEdit": "Bytes"},
-        Most(682, 123, 22),
+        Most(680, 118, 22),
         "pump pump_on feed push_all end_of_piece attend take_ring take_next take_call call start wake_stirred "
         "put_recorded encode_recorded send_ready flush wait_out wait_once finish leave_all hang_up",
     ),

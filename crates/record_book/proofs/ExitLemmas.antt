@@ -26,7 +26,7 @@ use Rattle.record_book.specs.Book.{BookState, world_now}
 use Rattle.record_book.specs.Proved.Inside.{prepared_closing}
 use Rattle.record_book.specs.Seat.{Receipted, SeatState}
 use Rattle.record_book.specs.Proved.House.{HasRoom, SameHouse}
-use Rattle.record_book.specs.declared.house.House.{House}
+use Rattle.record_book.specs.declared.journal.House.{House}
 
 -- a process is added, edited, or gone
 exits_push : (k : ℕ) (ps : List (Option Process)) (x : Process) → exits_from k (ps ++ Some x ∷ []) ≡ exits_from k ps ++ Some (exit_record (k + length ps)) ∷ []

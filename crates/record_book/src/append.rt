@@ -1,23 +1,35 @@
-ghost use Rattle.std.specs.Prelude.{◌≡◌, false, IfOk, OnErr};
+//! How records enter a journal.
+
+ghost use Rattle.std.specs.Prelude.{◌≡◌, ◌<◌, false, IfOk, OnErr};
 ghost use Rattle.std.specs.Arc.{arc_value};
+ghost use Rattle.posix_model.specs.Step.{given};
+ghost use Rattle.posix_model.specs.Change.{changed};
+ghost use Rattle.posix_model.specs.Proved.Fits.{Fits, IsProper, PutsWithin};
 ghost use Rattle.posix_model.specs.Proved.Lengths.{IsShortRecord};
 ghost use Rattle.posix_model.specs.Proved.Sound.{ended, closes};
+ghost use Rattle.posix_model.specs.Proved.Whole.{EachThere, IsItsFifo};
+ghost use Rattle.posix_model.specs.Sweep.{sweep};
+ghost use Rattle.machine_state.specs.Proved.Room.{HasRoom};
+ghost use Rattle.trace_ring.specs.Proved.Trace.{Pushes};
 ghost use Rattle.record_book.specs.Book.{Appends};
 ghost use Rattle.record_book.specs.Proved.Planned.{IsPlanned};
 
 use crate::exits::{keep_exit, prepare_exit};
+use crate::history::History;
 use crate::journal::Journal;
 use crate::moved::bytes_moved;
 use crate::seat::Receipt;
 use call_types::act::{Act, Record};
-use posix_model::change::Decided;
+use calls::given::given;
+use machine_state::machine::Machine;
+use posix_model::change::{Change, Decided};
 use posix_model::reader::WorldReader;
 use std::alloc::{AllocError, Global};
 use std::sync::Arc;
 
 /// One record, shared four times: for the history, for the trace, and for two receipts.
 #[derive(Drop)]
-struct Shared {
+struct SharedRecord {
     item: Arc<Record>,
     traced: Arc<Record>,
     receipt: Receipt,
@@ -26,7 +38,7 @@ struct Shared {
 
 /// Allocates a record that will stand at this place, and shares it. An error says that memory ran out.
 #[inline(always)]
-fn shared_at(alloc: Global, place: u64, entry: Record) -> Result<Shared, AllocError>
+fn shared_at(alloc: Global, place: u64, entry: Record) -> Result<SharedRecord, AllocError>
     requires short { IsShortRecord entry }
     ensures item { IfOk result (λ s. arc_value s.item ≡ entry) }
     ensures traced { IfOk result (λ s. arc_value s.traced ≡ entry) }
@@ -38,7 +50,7 @@ fn shared_at(alloc: Global, place: u64, entry: Record) -> Result<Shared, AllocEr
     let traced = item.clone()?;
     let receipt = Receipt::new(place, item.clone()?);
     let shared = receipt.share()?;
-    Ok(Shared {
+    Ok(SharedRecord {
         item,
         traced,
         receipt,
@@ -57,6 +69,34 @@ pub(crate) struct Appended {
 }
 
 impl Journal {
+    /// Makes the change of an act in the machine, and appends the act's record to the history, which puts a share of it into the
+    /// ring of the trace. Every record of a run enters its history here. There is room for all, so this takes no memory and cannot
+    /// fail.
+    // It takes two fields and not the journal, since the invariant of a journal ties what is prepared for exits to the machine, and
+    // the callers change that just before or after.
+    #[inline(always)]
+    pub(crate) fn push(
+        machine: &mut Machine,
+        history: &mut History,
+        item: Arc<Record>,
+        traced: Arc<Record>,
+        change: Change,
+    )
+        requires fits { Fits machine.old.world (given (arc_value item).act) change }
+        requires proper { IsProper machine.old.world (given (arc_value item).act) change }
+        requires machine_room { HasRoom machine.old change }
+        requires holds { PutsWithin machine.old.room.capacity machine.old.world change.files }
+        requires ends { EachThere (λ description. IsItsFifo machine.old.world.files description.target) machine.old.world.descriptions }
+        requires room { 0 < history.old.free }
+        requires same { arc_value traced ≡ arc_value item }
+        ensures world { machine.new.world ≡ sweep (changed machine.old.world (given (arc_value item).act) change) }
+        ensures pipes { machine.new.room.capacity ≡ machine.old.room.capacity }
+        ensures history { Pushes history.old history.new (arc_value item) }
+    {
+        machine.apply(given(&item.act), change);
+        history.push(item, traced);
+    }
+
     ghost use Rattle.record_book.specs.Proved.Appended.{TellsMoved};
 
     /// Makes the change of a planned act, and appends its record. The act ends no process and does not close the run. If it adds

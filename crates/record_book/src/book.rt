@@ -1,4 +1,7 @@
-ghost use Rattle.std.specs.Prelude.{◌≡◌, IfOk};
+//! The book of a run.
+
+ghost use Rattle.std.specs.Prelude.{◌≡◌, [], false, true, IfOk, IfSome, IfNone};
+ghost use Rattle.rtrb.specs.Ring.{received};
 ghost use Rattle.posix_model.specs.Kept.{IsSettled, KeptExactly};
 ghost use Rattle.record_book.specs.Book.{new_book, world_now};
 ghost use Rattle.record_book.specs.Counting.{CountsOf};
@@ -12,6 +15,7 @@ use posix_model::laws::file_kept_exactly;
 use posix_model::pipe_laws::bytes_of_pipe;
 use std::alloc::{AllocError, Global};
 use std::marker::Model;
+use trace_ring::trace_ring::{TraceEnd, TraceRing};
 
 /// The book of a run: its limits and its records, in order, each of which goes into a ring for the trace too. Contracts see these two,
 /// the receipts of the house, which the book holds until the run is closed, and whether the reading end of the ring was taken. The
@@ -75,5 +79,22 @@ impl<L: Ledgers> Book<L> {
         self.journal.is_run();
         self.journal.is_settled();
         self.tallies.sums()
+    }
+
+    /// The ring into which each record is put as it is recorded.
+    pub fn ring(&self) -> &TraceRing
+        ensures sent { result.now.sent ≡ self.now.history }
+        ensures taken { result.now.is_taken ≡ self.now.is_traced }
+    {
+        self.journal.history.ring()
+    }
+
+    /// The reading end of the ring, the first time; nothing was read from it yet. It takes no memory.
+    pub fn trace_end(&mut self) -> Option<TraceEnd>
+        ensures some { IfSome result (λ end. (self.old.is_traced ≡ false) × (received end ≡ [])) }
+        ensures none { IfNone result (self.old.is_traced ≡ true) }
+        ensures taken { self.new ≡ record self.old { is_traced = true } }
+    {
+        self.journal.history.take_end()
     }
 }

@@ -5,12 +5,13 @@ ghost use Rattle.slots.specs.Slots.{slot};
 ghost use Rattle.process_table.specs.Processes.{awaits};
 ghost use Rattle.posix_model.specs.History.{legal};
 ghost use Rattle.posix_model.specs.Kept.{IsSettled};
-ghost use Rattle.record_book.specs.Book.{new_book, world_now};
 ghost use Rattle.posix_model.specs.Reserve.{exits_left};
+ghost use Rattle.record_book.specs.Book.{new_book, world_now};
+ghost use Rattle.record_book.specs.Proved.Quiet.{AreQuiet};
 
+use crate::exits::Prepared;
 use crate::history::History;
-use crate::house::House;
-use crate::prepared::Prepared;
+use crate::seat::Receipt;
 use call_types::act::{Act, HOUSE};
 use call_types::limits::{Limits, PROCESSES_MAX};
 use machine_state::machine::Machine;
@@ -18,6 +19,15 @@ use posix_model::reader::WorldReader;
 use slots::numbered::Numbered;
 use std::alloc::{AllocError, Global};
 use std::marker::Model;
+
+/// What the house holds while the run is open: its receipts, which are of exits alone, with room for those of further exits and of the
+/// closing, and the record of the closing.
+#[derive(Drop)]
+pub(crate) struct House {
+    pub(crate) receipts: Vec<Receipt>,
+    pub(crate) closing: Prepared,
+    ghost quiet: { AreQuiet receipts.items },
+}
 
 /// The records of a run in order, and the machine that they led to. Contracts see the same of it as of a book.
 #[derive(Drop)]

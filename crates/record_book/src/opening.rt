@@ -6,6 +6,7 @@ use crate::seat::{Receipt, Seat, SpentSeat};
 use byte_ledger::ledgers::Ledgers;
 use call_types::act::Act;
 use call_types::refusal::Refusal;
+use posix_model::reader::WorldReader;
 use std::alloc::{AllocError, Global};
 
 /// What a join or an attach gives: a seat of type `S`, or a spent seat of type `P`.
@@ -27,7 +28,8 @@ impl<L: Ledgers> Book<L> {
     pub fn next_pid(&self) -> u32
         ensures { result ≡ next_pid self.now }
     {
-        self.journal.next_pid()
+        let _records = self.journal.limits.records();
+        self.machine().next_process() as u32
     }
 
     /// Records a join that is not refused. Returns the seat and, beside it, its receipt. On an error nothing changes.
@@ -43,7 +45,7 @@ impl<L: Ledgers> Book<L> {
         let actor = self.next_pid();
         let decided = self.journal.join_comes_to(alloc)?;
         self.journal.is_planned(actor, &Act::Join, &decided);
-        let (seat, receipt) = self.append_first(alloc, actor, Act::Join, decided)?;
+        let (seat, receipt) = self.record_opening(alloc, actor, Act::Join, decided)?;
         if full {
             return Ok((Opened::Refused(SpentSeat::of(seat)), receipt));
         }
@@ -63,7 +65,7 @@ impl<L: Ledgers> Book<L> {
         let awaits = self.journal.awaits(process);
         let decided = self.journal.attach_comes_to(process);
         self.journal.is_planned(process, &Act::Attach, &decided);
-        let (seat, receipt) = self.append_first(alloc, process, Act::Attach, decided)?;
+        let (seat, receipt) = self.record_opening(alloc, process, Act::Attach, decided)?;
         if awaits {
             return Ok((Opened::Seated(seat), receipt));
         }

@@ -59,10 +59,10 @@ fn open_seat<L: Ledgers>(
 }
 
 impl<L: Ledgers> Book<L> {
-    /// Appends the record of a planned act of a seat's process. The act opens no seat, ends no process and does not close the run.
-    /// The seat gets the receipt too. On an error nothing changes.
+    /// Records a planned act of a seat's process. The act opens no seat, ends no process and does not close the run. The seat gets
+    /// the receipt too. On an error nothing changes.
     #[inline(always)]
-    pub(crate) fn append(
+    pub(crate) fn record_act(
         &mut self,
         alloc: Global,
         seat: &mut Seat<L>,
@@ -91,9 +91,9 @@ impl<L: Ledgers> Book<L> {
         Ok(appended.receipt)
     }
 
-    /// Appends the record of an act that opens a seat and that `is_planned` covers. Returns the seat and, beside it,
-    /// its receipt. On an error nothing changes.
-    pub(crate) fn append_first(
+    /// Records an act that opens a seat and that `is_planned` covers. Returns the seat and, beside it, its receipt. On an error
+    /// nothing changes.
+    pub(crate) fn record_opening(
         &mut self,
         alloc: Global,
         actor: u32,

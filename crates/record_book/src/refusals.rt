@@ -36,21 +36,6 @@ fn act_is_short(act: &Act)
 }
 
 impl Journal {
-    /// The number that the next process will have.
-    pub(crate) fn next_pid(&self) -> u32
-        ensures { result ≡ next_pid self.now }
-    {
-        let _records = self.limits.records();
-        self.machine.next_process() as u32
-    }
-
-    /// Whether a process waits in a call that is ready.
-    pub(crate) fn is_ready(&self, process: u32) -> bool
-        ensures { result ≡ is_ready self.now.limits.bounds (world_now self.now) process }
-    {
-        calls::resume::is_ready(&self.machine, self.limits.bounds(), process as usize)
-    }
-
     /// Whether one more record would leave too few for `live` exits and, while the run is open, the closing.
     pub(crate) fn overfills(&self, live: usize) -> bool
         requires { live ≤ live_in (world_now self.now).processes + 1 }

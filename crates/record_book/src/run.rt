@@ -4,8 +4,8 @@ ghost use Rattle.record_book.specs.Book.{Records};
 ghost use Rattle.record_book.specs.Refusals.{start_refusal, IsDue};
 
 use crate::book::Book;
+use crate::calling::Resumed;
 use crate::opening::Opened;
-use crate::resume::Resumed;
 use crate::seat::{Receipt, Seat};
 use crate::seats::Seats;
 use byte_ledger::ledgers::Ledgers;

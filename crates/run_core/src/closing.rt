@@ -22,7 +22,7 @@ use byte_ledger::ledgers::Ledgers;
 use byte_ledger::tallies::{Shares, Sums};
 use call_types::act::Record;
 use record_book::book::Book;
-use record_book::closed::ClosedBook;
+use record_book::closing::ClosedBook;
 use record_book::seat::{Receipt, SpentSeat};
 use std::alloc::{AllocError, Global};
 use std::slice;

@@ -11,7 +11,7 @@ use byte_ledger::ledgers::Ledgers;
 use call_types::act::{Act, HOUSE, Record};
 use frame_codec::ranges::record_is_in_range;
 use posix_model::laws::reserve_was_kept;
-use record_book::closed::ClosedBook;
+use record_book::closing::ClosedBook;
 use record_book::seat::{Receipt, SpentSeat};
 use std::alloc::{AllocError, Global};
 use std::sync::Arc;

@@ -7,7 +7,7 @@ use crate::comparison::HasReceipts;
 use byte_ledger::ledgers::Ledgers;
 use logged_streams::reader::LoggedReader;
 use logged_streams::writer::LoggedWriter;
-use record_book::closed::ClosedBook;
+use record_book::closing::ClosedBook;
 use record_book::seat::{Receipt, SpentSeat};
 use request_pump::inlet::PushLog;
 use session_core::end::End;

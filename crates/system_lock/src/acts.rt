@@ -14,8 +14,8 @@ use call_types::refusal::Refusal;
 use call_types::request::Request;
 use posix_model::pipe_laws::calls_end_or_wait;
 use record_book::book::Book;
+use record_book::calling::Resumed;
 use record_book::opening::OpenedIn;
-use record_book::resume::Resumed;
 use record_book::seat::{Receipt, Seat, SpentSeat};
 use std::alloc::Global;
 

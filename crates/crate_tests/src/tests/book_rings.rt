@@ -8,7 +8,7 @@ use call_types::bounded::Data;
 use call_types::call::Call;
 use call_types::limits::Limits;
 use record_book::book::Book;
-use record_book::closed::ClosedBook;
+use record_book::closing::ClosedBook;
 use std::alloc::{AllocError, Global};
 use std::marker::Brand;
 use std::process::Abort;

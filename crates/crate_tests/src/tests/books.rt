@@ -13,7 +13,7 @@ use call_types::outcome::{Outcome, Reply};
 use call_types::refusal::Refusal;
 use posix_model::reader::WorldReader;
 use record_book::book::Book;
-use record_book::ending::Unspent;
+use record_book::exits::Unspent;
 use record_book::opening::{Opened, OpenedIn};
 use record_book::seat::{Receipt, Seat, SpentSeat};
 use slots::ticket::Ticket;

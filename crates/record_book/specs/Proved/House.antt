@@ -2,7 +2,7 @@
 use Rattle.std.specs.Prelude.{◌≡◌, ℕ, ◌+◌, ◌≤◌, Option, None, Some, vec_len, vec_capacity}
 use Rattle.std.specs.Option.{option_map}
 use Rattle.call_types.specs.declared.act.Record.{Record}
-use Rattle.record_book.specs.declared.house.House.{House}
+use Rattle.record_book.specs.declared.journal.House.{House}
 use Rattle.record_book.specs.HouseReceipts.{receipts_of}
 
 -- the record of the closing, which is prepared

@@ -3,8 +3,8 @@ use Rattle.std.specs.Prelude.{ℕ, Option, Result, Ok, Err}
 use Rattle.call_types.specs.declared.refusal.Refusal.{Refusal}
 use Rattle.record_book.specs.Seat.{SeatState}
 use Rattle.record_book.specs.Book.{BookState}
-use Rattle.record_book.specs.declared.resume.Resumed.{Resumed}
-use Rattle.record_book.specs.declared.resume.Resumed.TheVariants as resumed
+use Rattle.record_book.specs.declared.calling.Resumed.{Resumed}
+use Rattle.record_book.specs.declared.calling.Resumed.TheVariants as resumed
 use Rattle.record_book.specs.Runs.{Seats, ResumeRuns, StaysStill}
 
 -- how a resume goes: it is told as still, recorded or refused

@@ -11,7 +11,7 @@ use call_types::call::Call;
 use call_types::flags::OpenFlags;
 use call_types::limits::Limits;
 use record_book::book::Book;
-use record_book::closed::ClosedBook;
+use record_book::closing::ClosedBook;
 use record_book::opening::Opened;
 use record_book::seat::{Receipt, Seat, SpentSeat};
 use run_core::closing::{CloseFault, Totals, close_run};

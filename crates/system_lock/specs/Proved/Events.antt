@@ -12,7 +12,7 @@ use Rattle.record_book.specs.Book.{BookState, Records}
 use Rattle.record_book.specs.Openings.{Opened, Joins, Attaches}
 use Rattle.record_book.specs.declared.opening.Opened.TheVariants as opened
 use Rattle.record_book.specs.Resumes.{Resumes}
-use Rattle.record_book.specs.declared.resume.Resumed.TheVariants as resumed
+use Rattle.record_book.specs.declared.calling.Resumed.TheVariants as resumed
 use Rattle.record_book.specs.Refusals.{IsDue, join_refusal, attach_refusal, start_refusal, exit_refusal, resume_refusal, is_ready_in}
 use Rattle.record_book.specs.Ends.{Exits}
 use Rattle.system_lock.specs.System.{SystemState, is_live_in, is_among}

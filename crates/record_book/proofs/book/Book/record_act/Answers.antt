@@ -1,6 +1,6 @@
 use Rattle.std.proofs.Common.{◌≡◌, ap, arith}
 use Rattle.record_book.proofs.CountLemmas.{counts_appended}
-use Rattle.record_book.proofs.book.Book.append.Goals as goal
+use Rattle.record_book.proofs.book.Book.record_act.Goals as goal
 
 pub invariant_of-self-2 : goal.invariant_of-self-2
 invariant_of-self-2 g c =

@@ -2,7 +2,7 @@ use Rattle.std.proofs.Common.{map, None}
 use Rattle.std.specs.Arc.{arc_value}
 use Rattle.record_book.specs.Book.{closed_book}
 use Rattle.record_book.proofs.CountLemmas.{counts_of}
-use Rattle.record_book.proofs.closed.ClosedBook.counts.Goals as goal
+use Rattle.record_book.proofs.closing.ClosedBook.counts.Goals as goal
 
 pub returns : goal.returns
 returns g c =

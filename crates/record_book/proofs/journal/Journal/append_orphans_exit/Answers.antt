@@ -7,7 +7,7 @@ use Rattle.posix_model.specs.Sweep.{sweep}
 use Rattle.posix_model.specs.declared.world.World.{World}
 use Rattle.record_book.proofs.ExitLemmas.{prepared_there}
 use Rattle.record_book.proofs.GrowLemmas.{journal_ends}
-use Rattle.record_book.proofs.journal.Journal.record_orphans_exit.Goals as goal
+use Rattle.record_book.proofs.journal.Journal.append_orphans_exit.Goals as goal
 
 pub end_process-receipt-requires-clause-prepared : goal.end_process-receipt-requires-clause-prepared
 end_process-receipt-requires-clause-prepared c =

@@ -2,7 +2,7 @@ use Rattle.std.proofs.Common.{◌≡◌, ◌∙◌, false, Some, refl, sym}
 use Rattle.record_book.specs.Exits.{closing_record}
 use Rattle.record_book.proofs.ExitLemmas.{closing_is}
 use Rattle.record_book.proofs.GrowLemmas.{journal_shuts}
-use Rattle.record_book.proofs.journal.Journal.record_closing.Goals as goal
+use Rattle.record_book.proofs.journal.Journal.append_closing.Goals as goal
 
 pub invariant_of-self : goal.invariant_of-self
 invariant_of-self c =

@@ -1,6 +1,6 @@
 use Rattle.std.proofs.Common.{◌≡◌, ◌+◌, ap, arith}
 use Rattle.record_book.proofs.CountLemmas.{counts_appended, few_opened}
-use Rattle.record_book.proofs.book.Book.append_first.Goals as goal
+use Rattle.record_book.proofs.book.Book.record_opening.Goals as goal
 
 pub open_seat-requires-clause-few : goal.open_seat-requires-clause-few
 open_seat-requires-clause-few g c =

@@ -3,7 +3,7 @@ use Rattle.std.specs.Prelude.{is_some}
 use Rattle.slots.specs.Slots.{slot, live}
 use Rattle.record_book.proofs.ExitLemmas.{prepared_there, room_less}
 use Rattle.record_book.proofs.GrowLemmas.{journal_ends}
-use Rattle.record_book.proofs.journal.Journal.record_exit.Goals as goal
+use Rattle.record_book.proofs.journal.Journal.append_exit.Goals as goal
 
 pub end_process-requires-clause-prepared : goal.end_process-requires-clause-prepared
 end_process-requires-clause-prepared c =
