@@ -49,7 +49,7 @@ def main(words: Sequence[str]) -> int:
         ("short parts by hand", told_histories.short_cases()),
         ("lines", order_tool.line_cases()),
         ("tools/order.py", order_tool.cases(program)),
-        ("tools/waiting.py", waiting_tool.cases(program, args.seed, TRACES)),
+        ("tools/waiting.py", waiting_tool.cases(args.seed, TRACES)),
         ("random histories", random_histories.cases(program, args.seed, args.histories)),
         ("random histories of threads", lane_histories.cases(program, args.seed, 4 * args.histories)),
         ("what is left out", random_histories.left_out_cases(args.seed, args.histories)),

@@ -1,11 +1,11 @@
-"""What tools/waiting.py tells of a trace: who is there, who waits and in what, by hand and after random acts."""
+"""What tools/waiting.py tells of a trace: who is there, who waits, in what and for whom."""
 
+import sys
 import tempfile
 from collections.abc import Iterator
 from functools import partial
 
 from parts.written_traces import random_records
-from support import plain_model
 from support.auditing import Judge, act_of
 from support.counting import Case, require, same
 from support.frames import trace_of
@@ -16,106 +16,138 @@ from support.sources import numbered, source
 TOOL = TOOLS / "waiting.py"
 
 PAIR = ["0 p0 join = 0", "1 p0 pipe = 0 1", "2 p0 fork = 1"]
+BOTH = [*PAIR, "3 p1 attach = ok"]
 LONG = "6162" * 515
-RESUMED = "6 p0 resume = part 1025"
-ALONE = ": only a new connection, or the end of one, lets any go on"
+NOBODY = ": a server that goes on waits for connections"
+STUCK = ": none goes on by itself"
 # Records, what is told of them, and the exit status.
 BY_HAND: list[tuple[str, list[str], str, int]] = [
-    ("nobody", [], "0 processes, 0 with a connection, 0 of which wait", 0),
+    ("nobody", [], f"0 processes, 0 with a connection (0 so far), 0 of which wait{NOBODY}", 0),
     (
         "a child without a connection",
         PAIR,
-        "p0 waits in no call\np1 was forked and has no connection\n2 processes, 1 with a connection, 0 of which wait",
+        "p0 waits in no call\np1 was forked and has no connection\n"
+        "2 processes, 1 with a connection (1 so far), 0 of which wait",
         0,
     ),
     (
         "all wait",
-        [*PAIR, "3 p1 attach = ok", "4 p0 read 0 5 = parked 0", "5 p1 read 0 7 = parked 0"],
-        "p0 waits in read 0 5 since record 4\np1 waits in read 0 7 since record 5\n"
-        f"2 processes, 2 with a connection, 2 of which wait{ALONE}",
+        [*BOTH, "4 p0 read 0 5 = parked 0", "5 p1 close 1 = ok", "6 p1 read 0 7 = parked 0"],
+        "p0 waits in read 0 5 since record 4, where the writing end is open in itself\n"
+        "p1 waits in read 0 7 since record 6, where the writing end is open in p0\n"
+        f"2 processes, 2 with a connection (2 so far), 2 of which wait{STUCK}",
         1,
     ),
     (
-        "part of a write",
-        [*PAIR, "3 p1 attach = ok", f"4 p0 write 1 x{LONG} = parked 1024", "5 p1 read 0 1 = x61", RESUMED],
-        f"p0 waits in write 1 x{LONG[:51]}.. since record 4, with 1025 bytes moved\np1 waits in no call\n"
-        "2 processes, 2 with a connection, 1 of which wait",
+        "all wait, and one can go on",
+        [*BOTH, "4 p0 pipe = 2 3", "5 p1 read 0 1 = parked 0", "6 p0 write 1 x78 = 1", "7 p0 read 2 1 = parked 0"],
+        "p0 waits in read 2 1 since record 7, where the writing end is open in itself\n"
+        "p1 waits in read 0 1 since record 5, and can go on\n"
+        "2 processes, 2 with a connection (2 so far), 2 of which wait",
+        0,
+    ),
+    (
+        "a part of a write",
+        [
+            *BOTH,
+            f"4 p0 write 1 x{LONG} = parked 1024",
+            "5 p1 read 0 1 = x61",
+            "6 p0 resume = part 1025",
+        ],
+        f"p0 waits in write 1 x{LONG[:51]}.. since record 4, with 1025 bytes moved, "
+        "where the reading end is open in itself, p1\np1 waits in no call\n"
+        "2 processes, 2 with a connection (2 so far), 1 of which wait",
         0,
     ),
     (
         "a wait that has ended in an error",
-        [*PAIR, "3 p0 close 0 = ok", "4 p0 write 1 x61 = parked 0", "5 p1 exit = ok", "6 p0 resume = error EPIPE"],
-        "p0 waits in no call\n1 process, 1 with a connection, 0 of which wait",
+        [
+            *PAIR,
+            "3 p0 close 0 = ok",
+            f"4 p0 write 1 x{'61' * 1024} = 1024",
+            "5 p0 write 1 x61 = parked 0",
+            "6 p1 exit = ok",
+            "7 p0 resume = error EPIPE",
+        ],
+        "p0 waits in no call\n1 process, 1 with a connection (1 so far), 0 of which wait",
         0,
+    ),
+    (
+        "an end of a FIFO",
+        ["0 p0 join = 0", "1 p0 mkfifo f = ok", "2 p0 open f r = parked 0"],
+        "p0 waits in open f r since record 2, until the other end is opened\n"
+        f"1 process, 1 with a connection (1 so far), 1 of which wait{STUCK}",
+        1,
     ),
     (
         "a closed run",
         ["0 p0 join = 0", "1 p0 exit = ok", "2 house close-run = ok"],
-        "0 processes, 0 with a connection, 0 of which wait",
+        "0 processes, 0 with a connection (1 so far), 0 of which wait",
         0,
     ),
 ]
 
 
-def told(program: str, trace: bytes) -> Ran:
+def told(trace: bytes) -> Ran:
     """What the tool tells of a trace."""
     with tempfile.NamedTemporaryFile(prefix="fdref-") as file:
         file.write(trace)
         file.flush()
-        return run([str(TOOL), file.name, "--program", program])
+        return run([sys.executable, TOOL, file.name])
 
 
-def by_hand(program: str, records: list[str], text: str, status: int) -> None:
+def by_hand(records: list[str], text: str, status: int) -> None:
     """What is told of records that are written out."""
-    same(Ran(status, f"{text}\n".encode(), b""), told(program, trace_of(records)))
+    same(Ran(status, f"{text}\n".encode(), b""), told(trace_of(records)))
 
 
-def cut_trace(program: str) -> None:
+def cut_trace() -> None:
     """A record that is not whole yet is not looked at, as in a trace that is being written."""
-    text = "p0 waits in no call\n1 process, 1 with a connection, 0 of which wait\n"
-    same(Ran(0, text.encode(), b""), told(program, trace_of(PAIR[:2])[:-3]))
+    text = "p0 waits in no call\n1 process, 1 with a connection (1 so far), 0 of which wait\n"
+    same(Ran(0, text.encode(), b""), told(trace_of(PAIR[:2])[:-3]))
 
 
-def no_trace(program: str) -> None:
+def no_trace() -> None:
     """What is no trace, or comes from no run, is told so."""
-    for trace, fault in ((b"FDTRACE9", b"malformed 0"), (trace_of(["0 p0 resume = 0"]), b"comes from no run")):
-        ran = told(program, trace)
+    for trace, fault in ((b"FDTRACE9", b"malformed 0"), (trace_of(["0 p0 resume = 0"]), b"illegal 0 expected none")):
+        ran = told(trace)
         require(ran.status == 3 and not ran.stdout and fault in ran.stderr, ran.said())
+    ran = run([sys.executable, TOOL, "/no/such/trace"])
+    require(ran.status == 3 and b"No such file" in ran.stderr, ran.said())
 
 
-def random_case(program: str, seed: str, number: int) -> None:
-    """After random acts those are there and wait whom the model has there and has waiting."""
+def random_case(seed: str, number: int) -> None:
+    """After random acts those are there whom the model has, with what each does."""
     pick = source(f"{seed} waiting", number)
     records = random_records(pick)
     records = records[: pick.randrange(len(records) + 1)]
     judge = Judge()
     for line in records:
         judge.outcome_of(act_of(line.split(" ", 1)[1].rpartition(" = ")[0]))
-    lines = told(program, trace_of(records)).stdout.decode().splitlines()
     there = sorted(judge.world.processes.values(), key=lambda one: one.number)
-    same([state(process) for process in there], [seen(line) for line in lines[:-1]])
-
-
-def state(process: plain_model.Process) -> str:
-    """What the model has of a process."""
-    if not process.attached:
-        return f"p{process.number} alone"
-    return f"p{process.number} {'waits' if process.waits else 'goes on'}"
+    wanted = []
+    for it in there:
+        stuck = it.waits is not None and not it.waits.is_ready(judge.world)
+        what = "alone" if not it.attached else "stuck" if stuck else "ready" if it.waits else "goes on"
+        wanted.append(f"p{it.number} {what}")
+    ran = told(trace_of(records))
+    lines = ran.stdout.decode().splitlines()
+    same(wanted, [seen(line) for line in lines[:-1]])
+    attached = [line for line in wanted if not line.endswith("alone")]
+    same(int(bool(attached) and all(line.endswith("stuck") for line in attached)), ran.status)
 
 
 def seen(line: str) -> str:
     """What a line tells of a process."""
-    number = line.split(" ")[0]
-    if line.endswith("was forked and has no connection"):
-        return f"{number} alone"
-    return f"{number} {'goes on' if line.endswith('waits in no call') else 'waits'}"
+    ends = {"was forked and has no connection": "alone", "waits in no call": "goes on", "and can go on": "ready"}
+    return f"{line.split(' ')[0]} {next((what for end, what in ends.items() if line.endswith(end)), 'stuck')}"
 
 
-def cases(program: str, seed: str, count: int) -> Iterator[Case]:
+def cases(seed: str, count: int) -> Iterator[Case]:
     """Traces by hand, and so many random ones."""
     for name, records, text, status in BY_HAND:
-        yield name, partial(by_hand, program, records, text, status)
-    yield "a cut trace", partial(cut_trace, program)
-    yield "no trace", partial(no_trace, program)
+        yield name, partial(by_hand, records, text, status)
+    yield "a cut trace", cut_trace
+    yield "no trace", no_trace
     for number in range(count):
-        yield numbered("trace", seed, number), partial(random_case, program, seed, number)
+        yield numbered("trace", seed, number), partial(random_case, seed, number)
