@@ -8,9 +8,10 @@
      FDREF_SOCKET=PATH  The program joins as a process when it is loaded, and its calls are asked of the server at PATH.
      FDREF_LOG=FILE     Each call that is answered is appended to FILE as a line of fdref: `7 p0 open a rw,creat = 3`.
                         Of a call that waited the place is that of the record that ended it. A join, an attach and an
-                        exit have no line. Without FDREF_SOCKET the run is *native*: the system answers, and the lines
-                        are the same, with `-` in place of the place, and of other threads than the first one to make
-                        a call of its process `-1`, `-2` and so on.
+                        exit have no line. Without FDREF_SOCKET the run is *native*: the functions answer that come
+                        after this library, by the names that the program calls, so that those of a C library of its
+                        own do. The lines are the same, with `-` in place of the place, and of other threads than the
+                        first one to make a call of its process `-1`, `-2` and so on.
      FDREF_STARTS=1     In a native run `@` stands after that, and how many bytes the log had before the call began.
      FDREF_STRICT=1     What fdref leaves out is told on standard error, and the program ends with status 125.
      FDREF_PAST=FILE    Each call that is left to the system or fails with ENOSYS, as far as it is seen, is appended to
@@ -202,11 +203,11 @@ static int open_in(int folder, const char *name, int flags, mode_t mode)
         way = PASS;
     }
     if (way == PASS)
-        return numbered(system_openat(folder, name, flags, mode), is_cloexec);
+        return numbered(behind_open(folder, name, flags, mode), is_cloexec);
     slot.inode = way == ASK ? inode_of_name(rest) : 0;
     if (way == ASK)
         return (int)ALONE(taken(ask(act), slot, is_cloexec));
-    return (int)taken(noted(act, system_openat(folder, name, flags, mode)), slot, is_cloexec);
+    return (int)taken(noted(act, behind_open(folder, name, flags, mode)), slot, is_cloexec);
 }
 
 /* The mode that follows the flags, where there is one. */
@@ -548,7 +549,9 @@ static int64_t seek(int fd, int64_t offset, int whence)
         leave_out_at("lseek by SEEK_DATA and its kin", fd);
     if (way == ASK)
         return ALONE(ask_most(act, NULL, INT64_MAX));
-    return way == NOTE && is_known ? noted(act, system_lseek(fd, offset, whence)) : system_lseek(fd, offset, whence);
+    if (way == NOTE && is_known)
+        return noted(act, BEHIND(system_called_lseek(fd, offset, whence)));
+    return system_called_lseek(fd, offset, whence);
 }
 
 off_t lseek(int fd, off_t offset, int whence)
@@ -563,7 +566,9 @@ static int cut(int fd, int64_t length)
     struct fdref_act act = fdref_act_ftruncate(fd, length);
     if (way == ASK)
         return (int)ALONE(ask(act));
-    return way == PASS ? system_ftruncate(fd, length) : (int)noted(act, system_ftruncate(fd, length));
+    if (way == NOTE)
+        return (int)noted(act, BEHIND(system_called_ftruncate(fd, length)));
+    return system_called_ftruncate(fd, length);
 }
 
 int ftruncate(int fd, off_t length) { return cut(fd, length); }
@@ -602,16 +607,13 @@ int dup(int fd)
     if (way == ASK)
         return (int)ALONE(taken(ask(act), slot_of(fd), 0));
     if (way == NOTE)
-        return (int)taken(noted(act, system_fcntl(fd, F_DUPFD, 0)), slot_of(fd), 0);
-    return numbered(system_fcntl(fd, F_DUPFD, how == ASKED ? NUMBERS : 0), 0);
+        return (int)taken(noted(act, BEHIND(system_dup(fd))), slot_of(fd), 0);
+    return numbered(how == ASKED ? system_fcntl(fd, F_DUPFD, NUMBERS) : system_dup(fd), 0);
 }
 
-/* Also of equal numbers, as dup2 has it. */
-static int system_dup_to(int fd, int to, int flags)
+static int behind_dup_to(int fd, int to, int flags)
 {
-    if (fd == to)
-        return is_open_in_kernel(fd) ? fd : -1;
-    return system_dup3(fd, to, flags);
+    return flags ? system_dup3(fd, to, flags) : system_dup2(fd, to);
 }
 
 static int64_t dup_ours_to(struct fdref_act act, int is_cloexec)
@@ -628,7 +630,7 @@ static int64_t dup_ours_to(struct fdref_act act, int is_cloexec)
 static int64_t dup_real_to(int fd, int to, int flags)
 {
     if (fd >= NUMBERS && to >= NUMBERS)
-        return system_dup_to(fd, to, flags);
+        return behind_dup_to(fd, to, flags);
     if (to < 0 || to >= NUMBERS || !is_open_in_kernel(fd))
         return fails(EBADF);
     if (fd == to)
@@ -651,7 +653,7 @@ static int dup_to(int fd, int to, int flags)
         return (int)ALONE(dup_ours_to(act, is_cloexec));
     if (how == ASKED)
         return (int)ALONE(dup_real_to(fd, to, flags));
-    done = way == PASS ? system_dup_to(fd, to, flags) : (int)noted(act, system_dup_to(fd, to, flags));
+    done = way == PASS ? behind_dup_to(fd, to, flags) : (int)noted(act, BEHIND(behind_dup_to(fd, to, flags)));
     return fd == to ? done : (int)taken(done, slot_of(fd), is_cloexec);
 }
 
@@ -729,7 +731,7 @@ static int64_t pipe_ours(int ends[2], int flags)
 
 static int64_t pipe_noted(int ends[2], int flags)
 {
-    int64_t done = system_pipe2(ends, flags);
+    int64_t done = BEHIND(behind_pipe(ends, flags));
     struct fdref_outcome outcome = done < 0 ? fdref_error(errno) : fdref_descriptors(ends[0], ends[1]);
     note(fdref_act_pipe(), outcome, done);
     return done < 0 ? done : take_pipe(ends, flags);
@@ -739,7 +741,7 @@ static int64_t pipe_noted(int ends[2], int flags)
 static int64_t pipe_real(int ends[2], int flags)
 {
     int made[2], error;
-    if (system_pipe2(made, flags) < 0)
+    if (behind_pipe(made, flags) < 0)
         return -1;
     ends[0] = numbered(made[0], flags & O_CLOEXEC);
     ends[1] = ends[0] < 0 ? -1 : numbered(made[1], flags & O_CLOEXEC);
@@ -800,7 +802,7 @@ int mkfifoat(int folder, const char *name, mode_t mode)
     struct fdref_act act = fdref_act_mkfifo(rest);
     if (way == ASK)
         return (int)ALONE(ask(act));
-    return way == PASS ? system_mkfifoat(folder, name, mode) : (int)noted(act, system_mkfifoat(folder, name, mode));
+    return way == PASS ? behind_mkfifo(folder, name, mode) : (int)noted(act, BEHIND(behind_mkfifo(folder, name, mode)));
 }
 
 int mkfifo(const char *name, mode_t mode) { return mkfifoat(AT_FDCWD, name, mode); }
@@ -816,8 +818,8 @@ int linkat(int folder, const char *name, int new_folder, const char *new_name, i
     if (how == ASKED && is_ours != (new_way != PASS))
         return (int)fails(EXDEV);
     if (is_ours && new_way == NOTE)
-        return (int)noted(act, system_linkat(folder, name, new_folder, new_name, flags));
-    return system_linkat(folder, name, new_folder, new_name, flags);
+        return (int)noted(act, BEHIND(behind_link(folder, name, new_folder, new_name, flags)));
+    return behind_link(folder, name, new_folder, new_name, flags);
 }
 
 int link(const char *name, const char *new_name) { return linkat(AT_FDCWD, name, AT_FDCWD, new_name, 0); }
@@ -830,14 +832,14 @@ int renameat(int folder, const char *name, int new_folder, const char *new_name)
     if (way == ASK && new_way == ASK)
         return (int)ALONE(after_move(ask(act), rest, new_rest));
     if (way == PASS && new_way == ASK && folder == AT_FDCWD && plain(name))
-        return is_file(new_rest) ? (int)fails(ENOTDIR) : system_renameat(folder, name, new_folder, new_name);
+        return is_file(new_rest) ? (int)fails(ENOTDIR) : behind_rename(folder, name, new_folder, new_name);
     if (way == ASK && new_way == PASS && new_folder == AT_FDCWD && plain(new_name))
         return (int)fails(is_file(rest) ? EISDIR : ENOENT);
     if (how == ASKED && (way == PASS) != (new_way == PASS))
         return (int)fails(EXDEV);
     if (way == NOTE && new_way == NOTE)
-        return (int)noted(act, system_renameat(folder, name, new_folder, new_name));
-    return system_renameat(folder, name, new_folder, new_name);
+        return (int)noted(act, BEHIND(behind_rename(folder, name, new_folder, new_name)));
+    return behind_rename(folder, name, new_folder, new_name);
 }
 
 int rename(const char *name, const char *new_name) { return renameat(AT_FDCWD, name, AT_FDCWD, new_name); }
@@ -855,7 +857,9 @@ int unlinkat(int folder, const char *name, int flags)
     }
     if (way == ASK)
         return (int)ALONE(after_unlink(ask(act), rest));
-    return way == PASS ? system_unlinkat(folder, name, flags) : (int)noted(act, system_unlinkat(folder, name, flags));
+    if (way == NOTE)
+        return (int)noted(act, BEHIND(behind_unlink(folder, name, flags)));
+    return behind_unlink(folder, name, flags);
 }
 
 int unlink(const char *name) { return unlinkat(AT_FDCWD, name, 0); }
@@ -866,7 +870,7 @@ int remove(const char *name)
     enum way way = way_of_name("remove", &rest);
     if (way == ASK)
         return (int)ALONE(after_unlink(ask(fdref_act_unlink(rest)), rest));
-    return way == PASS ? system_remove(name) : (int)noted(fdref_act_unlink(rest), system_remove(name));
+    return way == PASS ? system_remove(name) : (int)noted(fdref_act_unlink(rest), BEHIND(system_remove(name)));
 }
 
 #include "files.h"

@@ -83,7 +83,7 @@ static int access_in(int folder, const char *name, int mode, int flags)
     struct file file;
     int done = look("access", folder, name, 0, &file);
     if (done > 0)
-        return system_faccessat(folder, name, mode, flags);
+        return behind_access(folder, name, mode, flags);
     return done == 0 && (mode & X_OK) != 0 ? (int)fails(EACCES) : done;
 }
 

@@ -2,10 +2,16 @@
 
 /* ---- the system's functions, as they are behind the ones of this library */
 
+/* The function that takes 64 bits: for what this library does for itself, and for what a program calls. */
 #ifdef __GLIBC__
 #define LARGE(name) #name "64"
 #else
 #define LARGE(name) #name
+#endif
+#if defined __GLIBC__ && __WORDSIZE == 32
+#define CALLED(name) LARGE(name)
+#else
+#define CALLED(name) #name
 #endif
 
 #define SYSTEM_CALLS(X) \
@@ -14,18 +20,27 @@
     X(int, close, "close", (int)) \
     X(ssize_t, read, "read", (int, void *, size_t)) \
     X(ssize_t, write, "write", (int, const void *, size_t)) \
-    X(ssize_t, pread, LARGE(pread), (int, void *, size_t, int64_t)) \
-    X(ssize_t, pwrite, LARGE(pwrite), (int, const void *, size_t, int64_t)) \
+    X(ssize_t, pread, CALLED(pread), (int, void *, size_t, int64_t)) \
+    X(ssize_t, pwrite, CALLED(pwrite), (int, const void *, size_t, int64_t)) \
     X(ssize_t, readv, "readv", (int, const struct iovec *, int)) \
     X(ssize_t, writev, "writev", (int, const struct iovec *, int)) \
     X(int64_t, lseek, LARGE(lseek), (int, int64_t, int)) \
+    X(int64_t, called_lseek, CALLED(lseek), (int, int64_t, int)) \
     X(int, ftruncate, LARGE(ftruncate), (int, int64_t)) \
-    X(int, truncate, LARGE(truncate), (const char *, int64_t)) \
+    X(int, called_ftruncate, CALLED(ftruncate), (int, int64_t)) \
+    X(int, truncate, CALLED(truncate), (const char *, int64_t)) \
+    X(int, dup, "dup", (int)) \
+    X(int, dup2, "dup2", (int, int)) \
     X(int, dup3, "dup3", (int, int, int)) \
+    X(int, pipe, "pipe", (int *)) \
     X(int, pipe2, "pipe2", (int *, int)) \
+    X(int, mkfifo, "mkfifo", (const char *, mode_t)) \
     X(int, mkfifoat, "mkfifoat", (int, const char *, mode_t)) \
+    X(int, link, "link", (const char *, const char *)) \
     X(int, linkat, "linkat", (int, const char *, int, const char *, int)) \
+    X(int, rename, "rename", (const char *, const char *)) \
     X(int, renameat, "renameat", (int, const char *, int, const char *)) \
+    X(int, unlink, "unlink", (const char *)) \
     X(int, unlinkat, "unlinkat", (int, const char *, int)) \
     X(int, remove, "remove", (const char *)) \
     X(int, fcntl, "fcntl", (int, int, ...)) \
@@ -34,6 +49,7 @@
     X(int, fsync, "fsync", (int)) \
     X(int, fdatasync, "fdatasync", (int)) \
     X(int, fclose, "fclose", (FILE *)) \
+    X(int, access, "access", (const char *, int)) \
     X(int, faccessat, "faccessat", (int, const char *, int, int)) \
     X(int, poll, "poll", (struct pollfd *, nfds_t, int)) \
     X(pid_t, fork, "fork", (void)) \
@@ -69,6 +85,43 @@ static void find_all(void)
 #define FOUND(type, name, symbol, parameters) find(&system_##name, symbol);
     SYSTEM_CALLS(FOUND)
 #undef FOUND
+}
+
+/* Without a folder and flags the plain name is called, which a library in between may have for its own. */
+static int behind_open(int folder, const char *name, int flags, mode_t mode)
+{
+    return folder == AT_FDCWD ? system_open(name, flags, mode) : system_openat(folder, name, flags, mode);
+}
+
+static int behind_pipe(int *ends, int flags) { return flags ? system_pipe2(ends, flags) : system_pipe(ends); }
+
+static int behind_mkfifo(int folder, const char *name, mode_t mode)
+{
+    return folder == AT_FDCWD ? system_mkfifo(name, mode) : system_mkfifoat(folder, name, mode);
+}
+
+static int behind_link(int folder, const char *name, int new_folder, const char *new_name, int flags)
+{
+    if (folder == AT_FDCWD && new_folder == AT_FDCWD && flags == 0)
+        return system_link(name, new_name);
+    return system_linkat(folder, name, new_folder, new_name, flags);
+}
+
+static int behind_rename(int folder, const char *name, int new_folder, const char *new_name)
+{
+    if (folder == AT_FDCWD && new_folder == AT_FDCWD)
+        return system_rename(name, new_name);
+    return system_renameat(folder, name, new_folder, new_name);
+}
+
+static int behind_unlink(int folder, const char *name, int flags)
+{
+    return folder == AT_FDCWD && flags == 0 ? system_unlink(name) : system_unlinkat(folder, name, flags);
+}
+
+static int behind_access(int folder, const char *name, int mode, int flags)
+{
+    return folder == AT_FDCWD && flags == 0 ? system_access(name, mode) : system_faccessat(folder, name, mode, flags);
 }
 
 /* The client calls the system, and is no part of what this library shows to a program. */

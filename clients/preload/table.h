@@ -70,6 +70,18 @@ static int64_t left(int64_t value)
 
 #define ALONE(call) (enter(), left(call))
 
+/* Whether this thread is in a function of the system that waits for nobody. A library in between may have it for its
+   own, and may make it of others that are here: these go past. */
+static __thread int is_behind;
+
+static int64_t back(int64_t value)
+{
+    is_behind = 0;
+    return value;
+}
+
+#define BEHIND(call) (is_behind = 1, back(call))
+
 static int64_t fails(int number)
 {
     errno = number;
@@ -499,6 +511,8 @@ enum way { PASS, NOTE, ASK };
 
 static enum way way_of_ours(void)
 {
+    if (is_behind)
+        return PASS;
     begin_call();
     return how == OFF ? PASS : how == NATIVE ? NOTE : ASK;
 }
@@ -508,7 +522,7 @@ static enum way way_of(int fd)
 {
     int error = errno;
     prepare();
-    if (how == OFF || fd >= NUMBERS)
+    if (how == OFF || is_behind || fd >= NUMBERS)
         return PASS;
     if (how == NATIVE && fd >= 0 && slots[fd].held != OURS)
         slots[fd].held = is_open_in_kernel(fd) ? REAL : FREE;

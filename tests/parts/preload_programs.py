@@ -13,6 +13,7 @@ from concurrent.futures import ThreadPoolExecutor
 from functools import partial
 from pathlib import Path
 
+from parts.c_programs import WARNINGS, compiles
 from parts.preload_builds import (
     LEFT_OUT,
     NO_ANSWER,
@@ -29,6 +30,7 @@ from parts.preload_builds import (
 )
 from support.counting import Case, require, same
 from support.frames import JOIN
+from support.places import C_TESTS
 from support.players import until_traced
 from support.running import Ran, run
 from support.serving import A_WHILE, ALL_RECORDS, SECONDS, Process, Server, outcome_of
@@ -107,6 +109,29 @@ def changes_nothing(library: Library) -> None:
         words = [*environment(library, []), library.program("preload_numbers"), "mixed"]
         same(Ran(0, b"said\n", b""), run(words, folder=folder))
         same(["a", "b", "c"], sorted(os.listdir(folder)))
+
+
+# What a library in between gives, and what is logged of it.
+BETWEEN_SAYS = b"9 1 0 0 0 0 -1\n"
+BETWEEN_LOG = """- p0 open a rw,creat = 3
+- p0 dup2 3 9 = 9
+- p0 lseek 3 0 set = 1
+- p0 rename a b = ok
+- p0 link a c = ok
+- p0 mkfifo f = ok
+- p0 ftruncate 3 5 = ok
+- p0 unlink a = error EPERM""".splitlines()
+
+
+def calls_between(library: Library) -> None:
+    """Natively the functions of a library are called that stands between a program and the system's, by the names that
+    the program calls. What such a function asks for is no call of the program."""
+    between = os.path.join(library.folder, f"{library.name.replace(' ', '-')}-between.so")
+    shared = ["-DBETWEEN", "-shared", "-fPIC", str(C_TESTS / "preload_between.c"), "-o", between]
+    compiles([library.compiler, "-std=c99", "-O1", *WARNINGS, *shared])
+    command = [library.program("preload_between")]
+    given = started(library, command, [f"LD_PRELOAD={library.built()}:{between}"])
+    same(Given(Ran(0, BETWEEN_SAYS, b""), BETWEEN_LOG), given)
 
 
 def ends(program: str, library: Library, word: str) -> None:
@@ -323,6 +348,7 @@ def programs(program: str, library: Library) -> Iterator[Case]:
         yield " ".join([name, *words, library.name]), partial(both, program, library, name, words, sessions, before)
     yield f"high numbers, {library.name}", partial(goes_high, library)
     yield f"neither server nor log, {library.name}", partial(changes_nothing, library)
+    yield f"a library in between, {library.name}", partial(calls_between, library)
 
 
 def endings(program: str, library: Library) -> Iterator[Case]:
