@@ -415,6 +415,42 @@ def one_difference_is_told(bench: Bench) -> None:
         require(any(re.fullmatch(r"1 script, \d+ calls, 1 difference", line) for line in lines), f"{lines}")
 
 
+@case(
+    "the first is settled, and one that is struck comes later",
+    b"p0 open a rw,creat\np0 pwrite 0 9223372036854775807 x6162\np0 read 0 65537\n",
+    ["system: 2 p0 pwrite 0 9223372036854775807 x6162 = error EINVAL"],
+)
+@case(
+    "the first is struck, and one that is settled comes later",
+    b"p0 pipe\np0 read 0 65537\np0 fstat 0\n",
+    ["system: 2 p0 read 0 65537 = parked 0"],
+)
+@case(
+    "the second of two that are struck comes first",
+    b"p0 pipe\np0 open a r,creat\np0 fstat 0\np0 write 1 61*3000\np0 open a r,trunc\n",
+    ["  2 p0 open a r,creat = 2", "system: 3 p0 fstat 0 = pipe 0 1"],
+)
+def first_is_told(bench: Bench, calls: bytes, wanted: list[str]) -> None:
+    """The first difference of a script is told as that, with lines before it in which nothing differs."""
+    if IS_LINUX:
+        status, lines = says(bench, b"join\n" + calls)
+        found = next(place for place, line in enumerate(lines) if line.startswith("system: "))
+        require(status == 0 and "the first of " in lines[0], f"status {status}: {lines}")
+        require(lines[found + 1 - len(wanted) : found + 1] == wanted, f"{lines}")
+        require(not any("and fdref says" in line for line in lines), f"{lines}")
+
+
+@case("lines that differ before a difference")
+def earlier_are_told(bench: Bench) -> None:
+    """Of a line that differs, before a difference that is told, what fdref says is told, too."""
+    if IS_LINUX:
+        lines = lines_of(b"join\np0 pipe\np0 fstat 0\np0 write 1 61*3000\n")
+        _, found = compare.compared(bench.asked(), lines)
+        told = compare.told(found[-1]).splitlines()
+        wanted = ["  2 p0 fstat 0 = pipe 0 1, and fdref says pipe 0 0", "system: 3 p0 write 1 61*3000 = 3000"]
+        require(told[2:4] == wanted, f"{told}")
+
+
 @case("a capacity that is handed on")
 def capacity_is_handed_on(bench: Bench) -> None:
     """With more room in fdref's pipes a write is not struck; one that is no capacity is a wrong word."""

@@ -24,6 +24,7 @@ where a script could not be run. docs/KERNELS.md has more.
 """
 
 import argparse
+import bisect
 import collections
 import os
 import shlex
@@ -46,7 +47,7 @@ from support.summaries import Counts, add_summary
 from support.texts import several
 
 from compare_lines import Asked, act_of, ends_of_closing, first_unfit, in_other_order, is_told_back
-from compare_reasons import REASONS, Difference, Reason, follows_append, reason_of
+from compare_reasons import REASONS, Difference, follows_append, reason_of, told_reason
 from compare_walks import CLASSES, class_of, random_lines, with_looks
 
 LINES_BEFORE = 12
@@ -56,6 +57,11 @@ SHRINK_SECONDS = 120
 
 
 # ---- one script
+
+
+# An act of a script that may have lost some, with its number in the whole; and a difference, with its place there.
+Numbered = tuple[int, bytes]
+Placed = tuple[tuple[int, bool, int], Difference]
 
 
 class Checked:
@@ -115,33 +121,46 @@ def compared(asked: Asked, lines: list[bytes]) -> tuple[list[Line], list[Differe
         # no reason excuses an fdref that the model contradicts
         if system[place].act and place not in beside.ends and difference.fdref != beside.outcome_at(place):
             difference.reason = None
+        difference.earlier = {it.place: it.fdref for it in found}
         found.append(difference)
         if not difference.reason or not difference.is_settled():
             return system, found
         known.add(place)
 
 
-def struck(lines: list[bytes], system: list[Line], difference: Difference) -> list[bytes]:
-    """A script without the act of a difference, and without the pwrite that it looks at."""
+def places_of_script(system: list[Line]) -> list[int]:
+    """The places of the lines that stand for the acts of a script."""
     ends = ends_of_closing(system)
-    of_script = [
-        place for place, line in enumerate(system) if line.act and not is_told_back(line) and place not in ends
-    ]
+    return [place for place, line in enumerate(system) if line.act and not is_told_back(line) and place not in ends]
+
+
+def struck(lines: list[Numbered], system: list[Line], difference: Difference) -> list[Numbered]:
+    """A script without the act of a difference, and without the pwrite that it looks at."""
+    of_script = places_of_script(system)
     at = of_script.index(difference.place) if difference.place in of_script else len(of_script)
     first = at - 1 if follows_append(difference) else at
     return lines[:first] + lines[at + 1 :]
 
 
+def placed(lines: list[Numbered], system: list[Line], difference: Difference) -> Placed:
+    """A difference with its place in the whole script: what is told back comes after the act before it."""
+    of_script = places_of_script(system)
+    before = bisect.bisect_right(of_script, difference.place)
+    number = lines[before - 1][0] if before else -1
+    return (number, difference.place not in of_script, difference.place), difference
+
+
 def checked(asked: Asked, lines: list[bytes]) -> Checked:
     """Compares a script, and again without the acts after which system and fdref are apart."""
     result = Checked()
-    apart: list[Difference] = []
-    lines = with_looks(lines, asked.limits)
+    apart: list[Placed] = []
+    numbered = list(enumerate(with_looks(lines, asked.limits)))
     for _ in range(STRIKES_MOST):
-        system, found = compared(asked, lines)
+        system, found = compared(asked, [line for _, line in numbered])
         result.last = None
         result.calls = sum(line.place not in ("-", "") and not is_told_back(line) for line in system)
-        result.differences = apart + found
+        here = [placed(numbered, system, it) for it in found]
+        result.differences = [it for _, it in sorted(apart + here, key=lambda it: it[0])]
         last = found[-1] if found else None
         if last and not last.reason:
             result.unexplained = last
@@ -149,11 +168,11 @@ def checked(asked: Asked, lines: list[bytes]) -> Checked:
         if not last or last.is_settled():
             return result
         result.last = act_of(last.lines[last.place])
-        shorter = struck(lines, system, last)
-        if shorter == lines:
+        shorter = struck(numbered, system, last)
+        if shorter == numbered:
             return result
         result.struck.append(result.last)
-        apart, lines = [*apart, last], shorter
+        apart, numbered = [*apart, here[-1]], shorter
     return result
 
 
@@ -165,15 +184,12 @@ def clipped(text: str) -> str:
     return text if len(text) <= 160 else text[:100] + "..." + text[-40:]
 
 
-def told_reason(reason: Reason | None) -> str:
-    """The reason of a difference, if it has one."""
-    return f"reason: {reason.name} ({reason.who}; {reason.page})" if reason else "reason: none"
-
-
 def told(difference: Difference) -> str:
-    """A difference, with the lines before it and its reason."""
-    before = difference.lines[max(difference.place - LINES_BEFORE, 0) : difference.place]
-    parts = [f"  {line.place} {line.act} = {line.outcome}" for line in before]
+    """A difference, with the lines before it and its reason. Of those that differ as well what fdref says is told."""
+    before = range(max(difference.place - LINES_BEFORE, 0), difference.place)
+    others = {place: f", and fdref says {outcome}" for place, outcome in difference.earlier.items()}
+    lines = [(difference.lines[place], others.get(place, "")) for place in before]
+    parts = [f"  {line.place} {line.act} = {line.outcome}{other}" for line, other in lines]
     line = difference.lines[difference.place]
     parts += [f"system: {line.place} {line.act} = {difference.system}"]
     parts += [f"fdref:  {line.place} {line.act} = {difference.fdref}"]

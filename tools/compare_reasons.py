@@ -30,6 +30,8 @@ class Difference:
         self.process = process_of(world, self.act)
         self.at = self.description(self.act)
         self.reason: Reason | None = None
+        # what fdref gives in the lines before it that differ, too
+        self.earlier: dict[int, str] = {}
 
     def description(self, act: plain_model.Act) -> plain_model.Description | None:
         """The open file description that a call is made on, or None."""
@@ -255,6 +257,12 @@ def is_count(it: Difference) -> bool:
     return is_asked and (it.succeeds() or it.system in ("error EFBIG", "error EPIPE", "error EAGAIN"))
 
 
+def is_write_of_nothing(it: Difference) -> bool:
+    """A write of no bytes to a pipe that a system refuses as one of some bytes."""
+    is_asked = it.words("write") and it.at is not None and it.at.pipe is not None and it.count() == 0
+    return is_asked and it.gives("0") and it.system in ("error EPIPE", "error EAGAIN")
+
+
 def is_full(it: Difference) -> bool:
     """More processes than the profile has."""
     return it.words("join", "fork") and it.gives("error EAGAIN") and not it.world.is_closed and it.system.isdigit()
@@ -283,6 +291,7 @@ REASONS = [
     Reason("offset and count pass the greatest offset: EINVAL", SYSTEM, "pages of read and write", is_offset_and_count),
     Reason("order of refusals, where several are due", OWN, "XSH 2.3", is_order),
     Reason("nonblock set while a write waits", OWN, "pages of fcntl and write", is_set_while_it_waits),
+    Reason("a write of no bytes to a pipe", OWN, "page of write", is_write_of_nothing),
     Reason("room of a pipe that is counted in pages", OWN, "page of write", is_paged_room),
     Reason("room of a pipe", OWN, "page of write", is_room),
     Reason("size and links of a pipe in fstat", OWN, "page of fstat", is_stat_of_pipe),
@@ -305,8 +314,14 @@ REASONS = [
     ),
     Reason("more than 64 processes", OWN, "page of fork", is_full),
 ]
+APPENDED = next(reason for reason in REASONS if reason.fits is is_pwrite_appended)
 
 
 def reason_of(difference: Difference) -> Reason | None:
     """The first reason that fits a difference."""
     return next((reason for reason in REASONS if reason.fits(difference)), None)
+
+
+def told_reason(reason: Reason | None, what: str = "reason") -> str:
+    """The reason of a difference, if it has one."""
+    return f"{what}: {reason.name} ({reason.who}; {reason.page})" if reason else f"{what}: none"

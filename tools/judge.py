@@ -91,7 +91,7 @@ from support.trees import Ended, never, run_tree
 import compare
 import past
 import some_order
-from compare_reasons import Reason
+from compare_reasons import Reason, told_reason
 from partings import OF_TIME, Compared, Finding, Parting
 from standstill import Standstill, seen_beside
 
@@ -498,7 +498,7 @@ def told_finding(verdict: Verdict, before: int) -> list[str]:
         # why a program makes other calls, or does not end, no order tells
         is_why = not parting.is_same_call() or (cause and cause.kind == past.THREAD)
         return [*told, f"reason: {verdict.order.told()}", *(causes if is_why else [])]
-    told += [compare.told_reason(verdict.reason_of(finding)), *causes]
+    told += [told_reason(verdict.reason_of(finding)), *causes]
     told += [verdict.order.told()] if verdict.order else []
     if parting.is_asked_otherwise():
         told.append("the calls differ, not the answers: by the number of a process, an address or the time, perhaps")

@@ -16,7 +16,7 @@ from support.runs import Line, line_of
 
 import compare_reasons
 from compare_lines import is_moved
-from compare_reasons import OWN, REASONS, Difference, Reason, is_append, is_pwrite_appended, process_of
+from compare_reasons import APPENDED, OWN, Difference, Reason, is_append, process_of
 from reach import Reach
 
 # ---- reasons
@@ -53,7 +53,6 @@ MORE_REASONS = [
     OF_TIME,
     Reason("more than 1,099,511,627,776 bytes in a file", OWN, "page of write", is_past_size),
 ]
-APPENDED = next(reason for reason in REASONS if reason.fits is is_pwrite_appended)
 
 
 class Parting(NamedTuple):
