@@ -17,20 +17,26 @@ In fdref a pipe has room for 1,024 bytes, or for as many as --pipe-capacity says
 a pipe or FIFO, one is searched for with pipes of 65,536 bytes, and run through `fdref replay --pipe-capacity 65536`. If
 there is one the history has a reason, `room of a pipe (own)`: the standard leaves it open.
 
+So has a history in which no calls overlap, where each call that fdref answers otherwise has one of tools/compare.py
+that is its own choice. After the first that succeeds in one of the two alone, the rest is not compared; that is told.
+
 Where none explains a history a part of it is printed that has none either. In it `?` is an answer that does not
 matter, and END `-` with `?` is a call of which nothing else is known. Both may be asked, too. Then comes the call that
-makes it impossible, with those that overlap it, and the page of the standard. Histories that differ in their times
-alone are searched once.
+makes it impossible, with those that overlap it, and the page of the standard. Where no calls overlap, what fdref
+answers to it is told, and in place of the page how the system departs from the standard, if tools/compare.py knows. Of
+calls that overlap a reason is told as `perhaps`: that of the first with one, in the order in which they came back.
+Histories that differ in their times alone are searched once.
 
-After several histories the last line counts them. Exit status: 0 where all are explained, or have that reason, 1 where
-one is not, 2 for wrong words and where HISTORY cannot be read, 3 where fdref could not be run or is not what the plain
-model is, 4 where a line is no call, 5 where one was given up and the others are explained.
+After several histories the last line counts them. Exit status: 0 where all are explained, or have a reason that is
+fdref's own, 1 where one is not, 2 for wrong words and where HISTORY cannot be read, 3 where fdref could not be run or
+is not what the plain model is, 4 where a line is no call, 5 where one was given up and the others are explained.
 """
 
 import argparse
 import sys
 from collections.abc import Sequence
 from pathlib import Path
+from typing import NamedTuple
 
 from support.commands import add_capacity, add_program, program_of
 from support.histories import BadHistory, Noted, form, history_text, read_histories
@@ -46,14 +52,26 @@ from support.ordering import (
     by_room,
     explain,
 )
+from support.plain_model import Limits
 from support.replaying import Differs, verified
 from support.running import CannotRun
 from support.texts import several
 
+import apart
+from compare_reasons import OWN, told_reason
+
 # The reason of a history that only larger pipes explain.
 BY_ROOM = "reason: room of a pipe (own; page of write)"
+WHERE_ROOMY = f"where a pipe has room for {ROOMY.capacity:,} bytes"
 
 EXPLAINED, NOT_EXPLAINED, WRONG_WORDS, CANNOT_RUN, NO_CALL, GIVEN_UP = 0, 1, 2, 3, 4, 5
+
+
+class Chosen(NamedTuple):
+    """A history of one call after another in which fdref answers some otherwise by choices of its own, and what is told
+    of it."""
+
+    told: str
 
 
 class Orders:
@@ -63,8 +81,8 @@ class Orders:
         self.program = program
         self.args = args
         self.is_one = is_one
-        self.known: dict[tuple[object, ...], tuple[int, Result | ByRoom]] = {}
-        self.counts = {Explained: 0, Unexplained: 0, GivenUp: 0, ByRoom: 0}
+        self.known: dict[tuple[object, ...], tuple[int, Result | ByRoom | Chosen]] = {}
+        self.counts = {Explained: 0, Unexplained: 0, GivenUp: 0, ByRoom: 0, Chosen: 0}
 
     def answer(self, number: int, history: Sequence[Noted]) -> None:
         """Answers for a history, and prints what is to be told of it."""
@@ -78,27 +96,81 @@ class Orders:
             told = self.ordered(history, result)
         else:
             told = self.unordered(history, result) if is_new else f"as history {first}\n"
-        if not (self.args.quiet and (isinstance(result, Explained | ByRoom) or not is_new)):
+        if not (self.args.quiet and (isinstance(result, Explained | ByRoom | Chosen) or not is_new)):
             print(("" if self.is_one else f"history {number}: ") + told, end="", flush=True)
 
-    def found(self, history: Sequence[Noted]) -> Result | ByRoom:
-        """Whether an order explains a history, with pipes as they are in fdref or with larger ones."""
+    def found(self, history: Sequence[Noted]) -> Result | ByRoom | Chosen:
+        """Whether an order explains a history, with pipes as they are in fdref or with larger ones, and if not why."""
         most = self.args.states, self.args.seconds
         result = explain(history, *most, shrink_seconds=0, limits=self.args.limits)
         if not isinstance(result, Unexplained):
             return result
-        return by_room(history, *most) or explain(history, *most, limits=self.args.limits)
+        return by_room(history, *most) or self.unexplained(history)
+
+    def unexplained(self, history: Sequence[Noted]) -> Result | Chosen:
+        """Why no order explains a history."""
+        ordered = apart.came_back(history)
+        if not apart.is_one_by_one(history):
+            return self.with_perhaps(ordered, self.explained(history, self.args.limits))
+        found = apart.parted_with_room(ordered, self.args.limits)
+        if not found:
+            return self.explained(history, self.args.limits)
+        self.confirm(ordered, found[-1])
+        first = next((it for it in found if not it.reason or it.reason.who != OWN), None)
+        return self.blamed(ordered, found, first) if first else self.chosen(found, ordered[found[-1].place + 1 :])
+
+    def confirm(self, ordered: Sequence[Noted], last: apart.Apart) -> None:
+        """Fails where the program does not answer the calls up to one as the model does."""
+        apart.confirm(self.program, ordered[: last.place + 1], last.limits)
+
+    def with_perhaps(self, ordered: Sequence[Noted], result: Result) -> Result:
+        """What is told of calls that overlap, with a reason that may be the one."""
+        found = apart.possible(ordered, self.args.limits)
+        if not found or not found.reason or not isinstance(result, Unexplained):
+            return result
+        self.confirm(ordered, found)
+        return result._replace(page=f"{result.page}\n{told_reason(found.reason, 'perhaps')}")
+
+    def chosen(self, found: Sequence[apart.Apart], after: Sequence[Noted]) -> Chosen:
+        """What is told of calls that fdref answers otherwise by choices of its own: the first for each reason."""
+        first = {it.reason: it for it in reversed(found)}
+        told = ["no order explains it, by a choice of fdref's own"]
+        for it in reversed(first.values()):
+            told += [f"  {it.noted.text()}", self.answered(it), told_reason(it.reason)]
+        if after and not found[-1].is_settled:
+            told.append(f"the rest is not compared, {several(len(after), 'call')}")
+        return Chosen("\n".join([*told, ""]))
+
+    def blamed(self, ordered: Sequence[Noted], found: Sequence[apart.Apart], first: apart.Apart) -> Result:
+        """What is told of calls, one after another, of which this is the first that is no choice of fdref's own."""
+        known = {it.place for it in found if it.place < first.place}
+        result = self.explained(apart.without_answers(ordered, known)[: first.place + 1], first.limits)
+        if not isinstance(result, Unexplained):
+            return self.explained(ordered, self.args.limits)
+        why = told_reason(first.reason) if first.reason else result.page
+        return result._replace(page=f"{self.answered(first)}\n{why}")
+
+    def answered(self, it: apart.Apart) -> str:
+        """What fdref answers to a call."""
+        is_larger = it.limits.capacity != self.args.limits.capacity
+        return f"fdref answers {it.fdref}" + (f", {WHERE_ROOMY}" if is_larger else "")
+
+    def explained(self, history: Sequence[Noted], limits: Limits) -> Result:
+        """Whether an order explains a history in a run of these limits, and a short part of it where none does."""
+        return explain(history, self.args.states, self.args.seconds, limits=limits)
 
     def ordered(self, history: Sequence[Noted], result: Explained) -> str:
         """The order of a history, as the program printed it."""
         lines = verified(self.program, history, result.steps, self.args.limits)
         return "an order explains it\n" + "".join(f"{line.place} {line.act} = {line.outcome}\n" for line in lines)
 
-    def unordered(self, history: Sequence[Noted], result: Result | ByRoom) -> str:
+    def unordered(self, history: Sequence[Noted], result: Result | ByRoom | Chosen) -> str:
         """What is told of a history without an order, or of one that was given up."""
+        if isinstance(result, Chosen):
+            return result.told
         if isinstance(result, ByRoom):
             lines = verified(self.program, history, result.steps, ROOMY)
-            told = [f"an order explains it where a pipe has room for {ROOMY.capacity:,} bytes"]
+            told = [f"an order explains it {WHERE_ROOMY}"]
             return "\n".join([*told, *(f"  {line.act} = {line.outcome}" for line in lines), BY_ROOM, ""])
         if not isinstance(result, Unexplained):
             return f"given up after {several(result.states, 'state')}\n" if isinstance(result, GivenUp) else ""
@@ -108,9 +180,10 @@ class Orders:
 
     def totals(self) -> str:
         """The last line."""
-        explained, unexplained, given_up, roomy = self.counts.values()
+        explained, unexplained, given_up, roomy, chosen = self.counts.values()
         text = f"histories {sum(self.counts.values())} explained {explained} unexplained {unexplained} "
-        return text + f"given up {given_up}" + (f" room of a pipe {roomy}" if roomy else "")
+        text += f"given up {given_up}" + (f" room of a pipe {roomy}" if roomy else "")
+        return text + (f" other choices {chosen}" if chosen else "")
 
     def status(self) -> int:
         """The exit status."""
@@ -161,6 +234,8 @@ def main(words: Sequence[str]) -> int:
     except CannotRun as fault:
         print(f"order.py: {fault}", file=sys.stderr)
         return CANNOT_RUN
+    if not histories:
+        print("order.py: nothing to explain", file=sys.stderr)
     if len(histories) != 1:
         print(orders.totals())
     return orders.status()

@@ -92,6 +92,108 @@ reason: room of a pipe (own; page of write)
 """
 
 
+JOINED = "0 1 p0 join = 0\n"
+FILED = f"{JOINED}2 3 p0 open a rw,creat = 0\n"
+PIPED = f"{JOINED}2 3 p0 pipe = 0 1\n"
+ENDS = f"{JOINED}2 3 p1 join = 1\n4 5 p0 mkfifo f = ok\n6 7 p0 open f r,nonblock = 0\n8 9 p1 open f w = 0\n"
+NONBLOCK = f"{PIPED}4 5 p0 setfl 1 -,nonblock = ok\n6 7 p0 write 1 61*65000 = 65000\n"
+COUNT = "more than 65,536 bytes in a call (own; pages of read and write)"
+FLAGS = "flags that the standard leaves undefined (own; page of open)"
+REFUSALS = "order of refusals, where several are due (own; XSH 2.3)"
+STAT = "size and links of a pipe in fstat (own; page of fstat)"
+# Histories of one call after another: what is before, a call that fdref answers otherwise by its own choice, what fdref
+# answers, and the reason.
+CHOICES = [
+    (FILED, "4 5 p0 read 0 70000 = x", "error EINVAL", COUNT),
+    (ENDS, "50 - p1 write 0 61*65537 = parked ?", "error EINVAL", COUNT),
+    (FILED, "4 5 p0 open a r,trunc = 1", "error EINVAL", FLAGS),
+    (PIPED, "4 5 p0 fstat 0 = pipe 0 1", "pipe 0 0", STAT),
+    (ENDS, "50 60 p0 open f rw = 1", "error EINVAL", "a FIFO opened for both (own; page of open)"),
+    (PIPED, "4 5 p0 pread 1 0 1 = error ESPIPE", "error EBADF", REFUSALS),
+    (
+        f"{PIPED}4 5 p0 close 0 = ok\n",
+        "6 7 p0 write 1 x = error EPIPE",
+        "0",
+        "a write of no bytes to a pipe (own; page of write)",
+    ),
+    (
+        NONBLOCK,
+        "8 9 p0 write 1 62*1000 = error EAGAIN",
+        "536, where a pipe has room for 65,536 bytes",
+        "room of a pipe that is counted in pages (own; page of write)",
+    ),
+]
+# What differs of one call after another without being such a choice, what fdref answers, and what is told of it.
+APPENDED = f"{JOINED}2 3 p0 open a rw,creat,append = 0\n4 5 p0 pwrite 0 0 x61 = 1\n6 7 p0 pwrite 0 0 x62 = 1\n"
+APPEND = "pwrite under O_APPEND appends (the system departs; page of write (pwrite))"
+AT_ONCE = "XSH 2.9.7: calls on regular files are atomic to each other; page of"
+UNCHOSEN = [
+    (f"{FILED}4 5 p0 write 0 x61 = 1\n", "6 7 p0 pread 0 0 9 = x62", "x61", f"{AT_ONCE} pread"),
+    (APPENDED, "8 9 p0 pread 0 0 9 = x6162", "x62", f"reason: {APPEND}"),
+    (APPENDED, "8 9 p0 fstat 0 = regular 2 1", "regular 1 1", f"reason: {APPEND}"),
+    (APPENDED, "8 9 p0 pread 0 0 9 = x6163", "x62", f"{AT_ONCE} pread"),
+    # a reason of an earlier call excuses none of a later one
+    (f"{PIPED}4 5 p0 fstat 0 = pipe 0 1\n", "6 7 p0 dup 0 = 3", "2", "page of dup: a pipe or FIFO"),
+    (
+        ROOMY,
+        "90 95 p0 read 0 9 = x",
+        "x616161616161616161, where a pipe has room for 65,536 bytes",
+        "page of read: a pipe or FIFO",
+    ),
+]
+# Calls that overlap, and what is told last of them.
+FORKED = f"{FILED}4 5 p0 fork = 1\n6 7 p1 attach = ok\n"
+OVERLAPPING = [
+    (FORKED, "10 20 p0 read 0 70000 = x\n15 18 p1 fstat 0 = regular 0 1", f"perhaps: {COUNT}"),
+    (FORKED, "10 20 p0 read 0 9 = x61\n15 18 p1 open a r,trunc = 1", f"perhaps: {FLAGS}"),
+    (FORKED, "10 12 p0 read 0 9 = x61\n15 20 p1 open a r,trunc = 1\n18 19 p0 dup 0 = 1", f"{AT_ONCE} read"),
+    (FORKED, "10 20 p0 read 0 9 = x61\n15 18 p1 fstat 0 = regular 0 1", f"{AT_ONCE} read"),
+]
+
+
+def chosen(call: str, answer: str, reason: str) -> str:
+    """What is told of a call that fdref answers otherwise by its own choice."""
+    return f"no order explains it, by a choice of fdref's own\n  {call}\nfdref answers {answer}\nreason: {reason}\n"
+
+
+def ends_so(program: str, text: str, status: int, end: str) -> None:
+    """What the tool prints of a history ends with these lines, and it ends with this status."""
+    ran = told(program, text)
+    same((status, ""), (ran.status, ran.stderr.decode()))
+    require(ran.stdout.decode().endswith(f"\n{end}\n"), ran.said())
+
+
+def reason_cases(program: str) -> Iterator[Case]:
+    """Histories that no order explains, each with its reason, or with what fdref answers."""
+    for before, call, answer, reason in CHOICES:
+        yield f"a choice: {call}", partial(prints, program, f"{before}{call}\n", 0, chosen(call, answer, reason))
+    for before, call, answer, end in UNCHOSEN:
+        lines = f"  {call}\nfdref answers {answer}\n{end}"
+        yield f"no choice: {call}", partial(ends_so, program, f"{before}{call}\n", 1, lines)
+    for before, calls, end in OVERLAPPING:
+        yield f"at once: {calls}", partial(ends_so, program, f"{before}{calls}\n", 1, end)
+    flags = f"{FILED}4 5 p0 open a r,trunc = 1\n6 7 p0 fstat 1 = regular 0 1\n"
+    one = chosen("4 5 p0 open a r,trunc = 1", *CHOICES[2][2:])
+    rest = f"{one}the rest is not compared, 1 call\n"
+    yield "what is not compared", partial(prints, program, flags, 0, rest)
+    two = f"{PIPED}4 5 p0 fstat 0 = pipe 0 1\n6 7 p0 fstat 1 = pipe 0 1\n8 9 p0 read 0 70000 = x\n"
+    wanted = chosen("4 5 p0 fstat 0 = pipe 0 1", "pipe 0 0", STAT)
+    wanted += "".join(chosen("8 9 p0 read 0 70000 = x", "error EINVAL", COUNT).splitlines(True)[1:])
+    yield "two choices", partial(prints, program, two, 0, wanted)
+    counts = "histories 2 explained 1 unexplained 0 given up 0 other choices 1\n"
+    yield "a choice, counted", partial(prints, program, f"{GOOD}\n{flags}", 0, counts, "--quiet")
+    yield "a choice of a wrong program", partial(finds_another_choice, program)
+
+
+def finds_another_choice(program: str) -> None:
+    """No reason excuses a program that does not answer as the model does."""
+    with tempfile.TemporaryDirectory(prefix="fdref-") as folder:
+        path = Path(folder, "wrong")
+        path.write_text(f'#!/bin/sh\n"{program}" "$@" | sed "s/error EINVAL/error EBADF/"\n', encoding="utf-8")
+        path.chmod(stat.S_IRWXU)
+        fails(str(path), f"{FILED}4 5 p0 read 0 70000 = x\n", 3, "the program differs from the plain model")
+
+
 def told(program: str, text: str, *options: str) -> Ran:
     """What the tool prints of histories."""
     words = ["python3", str(TOOLS / "order.py"), "-", "--program", program, *options]
@@ -126,6 +228,13 @@ def answers_the_example(program: str) -> None:
     require(told(program, text).stdout.endswith(b" p0 resume = 1624\n"), told(program, text).said())
     for status, other in ((0, "1024"), (1, "1025"), (1, "1625"), (0, "?")):
         same(status, told(program, text.replace("= 1624", f"= {other}")).status)
+
+
+def says_of_nothing(program: str) -> None:
+    """Where there is no history that is told, and counted."""
+    counts = b"histories 0 explained 0 unexplained 0 given up 0\n"
+    for text in ("", "\n"):
+        same(Ran(0, counts, b"order.py: nothing to explain\n"), told(program, text))
 
 
 def fails_without_file(program: str) -> None:
@@ -195,8 +304,8 @@ def cases(program: str) -> Iterator[Case]:
     wrong = ROOMY.replace("70 80 p0 write 1 61*600 = 600", "70 80 p0 read 0 9 = x")
     yield "a larger pipe, in vain", partial(fails, program, wrong, 1, "no order explains it")
     yield "quiet", partial(prints, program, four, 1, f"history 2: {BAD_LINES}{totals}", "--quiet")
-    nothing = "histories 0 explained 0 unexplained 0 given up 0\n"
-    yield "no history", partial(prints, program, "\n", 0, nothing)
+    yield from reason_cases(program)
+    yield "no history", partial(says_of_nothing, program)
     yield "given up after states", partial(prints, program, GOOD, 5, "given up after 2 states\n", "--states", "1")
     yield "wrong words", partial(fails, program, GOOD, 2, "unrecognized", "--no")
     yield "no program", partial(fails, "/no/program", GOOD, 3, "no program at /no/program")
@@ -205,6 +314,8 @@ def cases(program: str) -> Iterator[Case]:
     yield "a line that is no call", partial(fails, program, f"{GOOD}\n1 2 p0 jion = 0\n", 4, "line 8: ")
     no_answer = "line 2: pipe does not give 0; expected two descriptors, as 0 1, an error, as error EBADF, or ?\n"
     yield "a line without an answer", partial(fails, program, GOOD.replace("= 0 1", "= 0"), 4, f"order.py: {no_answer}")
+    long = "line 2: not an act, from byte 12 of it on; expected data of at most 65700 bytes, as x6869 or 61*512\n"
+    yield "data too long", partial(fails, program, f"{JOINED}2 3 p0 write 0 61*65701 = 1\n", 4, f"order.py: {long}")
     yield "what is built", takes_what_is_built
     yield "the example", partial(answers_the_example, program)
     yield "a file", partial(reads_a_file, program)

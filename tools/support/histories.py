@@ -130,7 +130,8 @@ def read_act(text: str, number: int) -> plain_model.Act:
     try:
         act = plain_model.read_act(text.encode())
     except plain_model.NotAnAct as fault:
-        raise BadHistory(number, f"not an act, from byte {fault.args[0]} of it on") from None
+        column, expected = fault.args
+        raise BadHistory(number, f"not an act, from byte {column} of it on; expected {expected}") from None
     if act.word == "resume":
         raise BadHistory(number, "a resume is no call")
     return act

@@ -1,0 +1,229 @@
+"""Where the calls of a history, one after another, are answered otherwise by fdref, and why: by the reasons of
+tools/compare.py.
+
+The calls come in the order in which they came back. Where none overlap that is the only order. Where some do it is one
+of several: a reason that is found there may be the one, and need not.
+"""
+
+import itertools
+from collections.abc import Iterable, Iterator, Sequence
+from typing import NamedTuple
+
+from support import plain_model
+from support.histories import UNKNOWN, WAITS, Noted
+from support.ordering import ROOMY, Explained, explain
+from support.plain_model import Description, Limits, Process, Reply, World
+from support.replaying import Differs, is_waiting, replayed
+from support.runs import Line, Settled, line_of
+from support.searching import FOREVER, Step
+
+from compare_lines import act_of
+from compare_reasons import APPENDED, Difference, Reason, is_append, is_paged_room, is_room, reason_of
+
+
+class Apart(NamedTuple):
+    """A call that fdref answers otherwise: its place in the order, what fdref answers in a run of which limits, the
+    reason, if there is one, and whether what comes after it can be compared."""
+
+    place: int
+    noted: Noted
+    fdref: str
+    limits: Limits
+    reason: Reason | None
+    is_settled: bool
+
+
+# ---- orders
+
+
+def came_back(history: Iterable[Noted]) -> list[Noted]:
+    """The calls of a history in the order in which they came back, those that wait at the end last. A fork comes before
+    its child."""
+    attached = {noted.process: noted.end for noted in history if noted.act.word == "attach" and noted.end is not None}
+
+    def when(noted: Noted) -> tuple[float, int]:
+        end = FOREVER if noted.end is None else noted.end
+        is_fork = noted.act.word == "fork" and noted.outcome.isdigit()
+        return min(end, attached.get(int(noted.outcome), end)) if is_fork else end, noted.start
+
+    return sorted(history, key=when)
+
+
+def is_one_by_one(history: Sequence[Noted]) -> bool:
+    """Whether no calls of a history overlap."""
+    ordered = sorted(history, key=lambda noted: noted.start)
+    return all(
+        one.precedes(other) or (one.process == other.process and one.end is not None)
+        for one, other in itertools.pairwise(ordered)
+    )
+
+
+def in_order(history: Sequence[Noted], steps: Iterable[Step]) -> list[Noted]:
+    """The calls of a history in the order of these steps, each where it comes back."""
+    begun: dict[object, int] = {}
+    last: dict[tuple[object, int], float] = {}
+    for at, step in enumerate(steps):
+        who = step.act.actor
+        begun[who] = begun.get(who, -1) + (step.act.word != "resume")
+        last[who, begun[who]] = at
+    keyed = []
+    counts: dict[int, int] = {}
+    for noted in sorted(history, key=lambda noted: noted.start):
+        number = counts.setdefault(noted.process, 0)
+        counts[noted.process] += 1
+        keyed.append((last.get((noted.process, number), FOREVER), noted))
+    return [noted for _, noted in sorted(keyed, key=lambda it: it[0])]
+
+
+# ---- the model beside a history
+
+
+class Appending(World):
+    """A world in which a pwrite under append writes at the end."""
+
+    def pwrite(self, process: Process, fd: int, start: int, data: bytes) -> Reply:
+        """The call."""
+        at: Description | None = process.table.get(fd)
+        if at and start >= 0 and is_append(plain_model.Act(process.number, "pwrite"), at):
+            start = len(at.regular.data)
+        return super().pwrite(process, fd, start, data)
+
+
+class Beside:
+    """The model beside calls that come one after another, and what each of them gives at last."""
+
+    def __init__(self, history: Sequence[Noted], limits: Limits, world: type[World] = World) -> None:
+        self.run = Settled(limits)
+        self.run.world = world(limits)
+        self.answers: list[str] = []
+        # the call in which each process waits, by its place
+        self.waiting: dict[int, int] = {}
+        for noted in history:
+            # no call makes one go on that came back before it
+            overdue = [who for who, at in self.waiting.items() if history[at].precedes(noted)]
+            for who in overdue:
+                del self.waiting[who]
+            self.take(noted)
+
+    def take(self, noted: Noted) -> None:
+        """Lets a call take place, but for one of which nothing is known."""
+        if noted.end is None and noted.outcome == UNKNOWN:
+            self.answers.append(UNKNOWN)
+            return
+        seen = len(self.run.lines)
+        self.run.take(noted.act)
+        first, *resumes = self.lines()[seen:]
+        if is_waiting(first.outcome):
+            self.waiting[first.number()] = len(self.answers)
+        self.answers.append(first.outcome)
+        for line in resumes:
+            if line.number() in self.waiting:
+                self.answers[self.waiting[line.number()]] = line.outcome
+
+    def lines(self) -> list[Line]:
+        """The lines of the run."""
+        return [line_of(text.rstrip("\n")) for text in self.run.lines]
+
+
+def is_given(noted: Noted, answer: str) -> bool:
+    """Whether a call gives what was noted."""
+    if noted.outcome == WAITS:
+        return is_waiting(answer)
+    if noted.outcome == UNKNOWN:
+        return noted.end is None or not is_waiting(answer)
+    return answer == noted.outcome
+
+
+# ---- what is apart
+
+
+def differences(history: Sequence[Noted], limits: Limits) -> Iterator[Apart]:
+    """The calls, in this order, that the model answers otherwise."""
+    known: set[int] = set()
+    for place, answer in enumerate(Beside(history, limits).answers):
+        if not is_given(history[place], answer):
+            known.add(place)
+            yield apart_at(history, place, answer, limits, known)
+
+
+def apart_at(history: Sequence[Noted], place: int, answer: str, limits: Limits, known: set[int]) -> Apart:
+    """A call that the model answers otherwise, as are the known ones up to it."""
+    lines = [Line(str(at), plain_model.act_text(noted.act), noted.outcome) for at, noted in enumerate(history)]
+    world = Beside(history[:place], limits).run.world
+    difference = Difference(place, lines, lines[place], lines[place]._replace(outcome=answer), world)
+    reason = reason_of(difference)
+    if reason is None and is_by_append(history[: place + 1], limits, known - {place}):
+        reason = APPENDED
+    return Apart(place, history[place], answer, limits, reason, difference.is_settled())
+
+
+def is_by_append(history: Sequence[Noted], limits: Limits, known: set[int]) -> bool:
+    """Whether the calls give what was noted, but for the known ones, where a pwrite under append writes at the end."""
+    answers = Beside(history, limits, Appending).answers
+    return all(at in known or is_given(noted, answers[at]) for at, noted in enumerate(history))
+
+
+def parted(history: Sequence[Noted], limits: Limits) -> list[Apart]:
+    """The calls, in this order, that the model answers otherwise, up to the first that has no reason or after which the
+    two are apart."""
+    found = []
+    for it in differences(history, limits):
+        found.append(it)
+        if not it.reason or not it.is_settled:
+            break
+    return found
+
+
+def parted_with_room(history: Sequence[Noted], limits: Limits) -> list[Apart]:
+    """The same, but with larger pipes where they have too little room."""
+    found = parted(history, limits)
+    return (wants_room(found, limits) and parted(history, ROOMY)) or found
+
+
+def wants_room(found: Iterable[Apart], limits: Limits) -> bool:
+    """Whether a call is answered otherwise since pipes have too little room, and there are larger ones."""
+    fits = [it.reason.fits for it in found if it.reason]
+    return limits.capacity < ROOMY.capacity and (is_room in fits or is_paged_room in fits)
+
+
+def possible(history: Sequence[Noted], limits: Limits) -> Apart | None:
+    """The first call, in this order, that the model answers otherwise for a reason, if none without one precedes it."""
+    bare: list[Noted] = []
+    for it in differences(history, limits):
+        if any(noted.precedes(it.noted) for noted in bare):
+            return None
+        if it.reason:
+            return (possible(history, ROOMY) if wants_room([it], limits) else None) or it
+        bare.append(it.noted)
+    return None
+
+
+def excused(
+    history: Sequence[Noted], limits: Limits, states_most: int, seconds: float
+) -> tuple[list[Noted], list[Apart]]:
+    """An order of a history, and the calls in it that the model answers otherwise: each of them has a reason. They are
+    none where no such order is found. Where pipes have too little room it is one for larger pipes."""
+    ordered = came_back(history)
+    found = list(differences(ordered, limits))
+    if wants_room(found, limits):
+        return excused(history, ROOMY, states_most, seconds)
+    doubted = {it.place for it in found if it.reason}
+    if doubted and len(doubted) < len(found):
+        result = explain(without_answers(ordered, doubted), states_most, seconds, 0, limits)
+        ordered = in_order(ordered, result.steps) if isinstance(result, Explained) else []
+        found = list(differences(ordered, limits))
+    return ordered, found if all(it.reason for it in found) else []
+
+
+def without_answers(history: Iterable[Noted], places: set[int]) -> list[Noted]:
+    """A history in which the answers of some calls are not known."""
+    return [noted._replace(outcome=UNKNOWN) if at in places else noted for at, noted in enumerate(history)]
+
+
+def confirm(program: str | Sequence[str], history: Sequence[Noted], limits: Limits) -> None:
+    """Fails where the program does not answer these calls, in this order, as the model does."""
+    lines = Beside(history, limits).lines()
+    acts = [plain_model.read_act(act_of(line).encode()) for line in lines]
+    for line, given in zip(lines, replayed(program, acts, limits), strict=True):
+        if line != given:
+            raise Differs(f"{given.act} = {given.outcome}, and the model gives {line.outcome}")
