@@ -17,8 +17,10 @@ of the system. The last lines count histories by kind and by reason.
 
 With a FILE, which is a race for `fdref outcomes`, the system runs that for N seconds (5), and a table is printed: what
 was seen and is not allowed, with its reason, then what is allowed and was not seen, and then the rest. Each line has
-how often an outcome was seen, its number in `fdref outcomes`, and the answers; the last one counts them. What FILE asks
-for is left out. Where `fdref outcomes` tells that there are too many states, --states N lets it go on to N.
+how often an outcome was seen, its number in `fdref outcomes`, and the answers; the last one counts them. The reason may
+be one of tools/compare.py, where an order explains all but what has such reasons; `perhaps` is told of one where none
+is found, and that is no reason yet. What FILE asks for is left out. Where `fdref outcomes` tells that there are too
+many states, --states N lets it go on to N.
 
 Exit status: 0 where all that no order explains has a reason, 1 where something has none, 2 for wrong words, 3 where a
 script could not be run. docs/KERNELS.md has more.
@@ -48,6 +50,7 @@ from support.running import CannotRun, run
 from support.summaries import Counts, add_summary
 from support.texts import several
 
+import apart
 import race_kinds
 import race_table
 
@@ -508,8 +511,8 @@ def race_file(args: argparse.Namespace, asked: Asked) -> int:
         table.add(found)
     if first:
         print("".join(f"{line}\n" for line in race_table.setup_differs(program, race, first, asked.limits)), end="")
-    odd = table.odd(lambda history: reason_without_order(script, history, asked.limits))
-    print("\n".join(table.lines(odd)), flush=True)
+    odd = table.odd(lambda history: reason_without_order(asked, script, history))
+    print("\n".join(table.lines(odd, lambda history: perhaps(asked, history))), flush=True)
     bare = [it for it in odd if it.reason is None]
     for it in bare[:TOLD_MOST]:
         tell(Unexplained(script, it.history, None), args.file, asked.limits)
@@ -519,11 +522,37 @@ def race_file(args: argparse.Namespace, asked: Asked) -> int:
     return 1 if bare else 0
 
 
-def reason_without_order(script: str, history: History, limits: Limits) -> Reason | None:
+class Choice(NamedTuple):
+    """A reason of tools/compare.py, as the table tells it."""
+
+    name: str
+    page: str
+
+
+def choice(asked: Asked, found: apart.Apart, ordered: Sequence[Noted]) -> Choice | None:
+    """The reason why fdref answers a call otherwise, which it has to answer as the model does."""
+    apart.confirm(asked.program, ordered[: found.place + 1], found.limits)
+    return Choice(f"{found.reason.name} ({found.reason.who})", found.reason.page) if found.reason else None
+
+
+def reason_without_order(asked: Asked, script: str, history: History) -> race_table.Reasoned | None:
     """The reason of a history whose answers fdref does not allow, so that no order may explain it."""
+    limits = asked.limits
     if isinstance(explained(history, limits), ordering.Explained):
         raise replaying.Differs(f"fdref outcomes does not tell what an order explains:\n{told(history)}")
-    return reason_of(Race(script, history, limits))
+    reason = reason_of(Race(script, history, limits))
+    if reason:
+        return reason
+    ordered, found = apart.excused(history, limits, STATES_MOST, SEARCH_SECONDS)
+    return choice(asked, found[0], ordered) if found else None
+
+
+def perhaps(asked: Asked, history: History) -> race_table.Reasoned | None:
+    """What may be the reason of a history: that of a call that fdref answers otherwise, in the order in which the calls
+    came back."""
+    ordered = apart.came_back(history)
+    found = apart.possible(ordered, asked.limits)
+    return choice(asked, found, ordered) if found else None
 
 
 # ---- how it is run

@@ -110,12 +110,14 @@ class Table:
                 found.append(Odd(text, seen.count, *min(judged, key=lambda it: it[0] is not None)))
         return found
 
-    def lines(self, odd: Sequence[Odd]) -> list[str]:
-        """The table, in three parts: a line has how often an outcome was seen, its number in fdref, and its text."""
+    def lines(self, odd: Sequence[Odd], perhaps: Callable[[History], Reasoned | None]) -> list[str]:
+        """The table, in three parts: a line has how often an outcome was seen, its number in fdref, and its text. What
+        may be the reason of one without a reason is told."""
         lines = ["seen, and not allowed"] if odd else []
         for it in odd:
-            why = f"{it.reason.name} ({it.reason.page})" if it.reason else "no reason is known"
-            lines += [row(it.count, "-", it.text), f"{'':14}{why}"]
+            reason = it.reason or perhaps(it.history)
+            why = f"{reason.name} ({reason.page})" if reason else "no reason is known"
+            lines += [row(it.count, "-", it.text), f"{'':14}{'' if it.reason or not reason else 'perhaps: '}{why}"]
         unseen = [text for text in self.allowed if text not in self.seen]
         lines += ["allowed, and not seen"] if unseen else []
         lines += [row(0, self.allowed[text], text) for text in unseen]

@@ -96,6 +96,43 @@ def unseen_is_told(tools: Tools) -> None:
     same(Ran(0, wanted.encode(), b""), tools.race(*made_up(tools, "seen", MADE_UP[1:2])))
 
 
+# Races of two processes in which a system answers otherwise by a choice of fdref's own: what is before, the calls, a
+# history of each, the status and what is told of it.
+JOINS = "join\njoin\np0 open a rw,creat\n"
+JOINED = "0 1 p0 join = 0\n2 3 p1 join = 1\n4 5 p0 open a rw,creat = 0\n"
+ENDS = "join\np0 pipe\np0 fork\np1 attach\n"
+FLAGS = "flags that the standard leaves undefined (own) (page of open)"
+STAT = "size and links of a pipe in fstat (own) (page of fstat)"
+REFUSALS = "order of refusals, where several are due (own) (XSH 2.3)"
+CHOICES = [
+    (JOINS, JOINED, ["20 30 p0 open a r,trunc = 1", "21 31 p1 open b rw,creat = 0"], 0, FLAGS),
+    (ENDS, SETUP, ["20 30 p0 fstat 0 = pipe 0 1", "21 31 p1 getfl 0 = 1"], 0, STAT),
+    (ENDS, SETUP, ["20 30 p0 pread 1 0 1 = error ESPIPE", "21 31 p1 getfl 0 = 1"], 0, REFUSALS),
+    # in the order in which they came back the flags are set too late
+    (
+        ENDS,
+        SETUP,
+        ["20 24 p0 fstat 0 = pipe 0 1", "25 28 p0 getfl 1 = 66", "23 35 p1 setfl 1 -,nonblock = ok"],
+        0,
+        STAT,
+    ),
+    # where all else is not explained it may be the reason, and where what comes before it differs it is none
+    (JOINS, JOINED, ["20 30 p0 open a r,trunc = 1", "31 41 p0 fstat 1 = regular 0 1"], 1, f"perhaps: {FLAGS}"),
+    (JOINS, JOINED, ["20 30 p0 fstat 0 = regular 7 1", "31 41 p0 open a r,trunc = 1"], 1, "no reason is known"),
+    (ENDS, SETUP, ["20 30 p0 fstat 0 = pipe 0 1", "31 41 p0 read 0 1 = x61"], 1, f"perhaps: {STAT}"),
+]
+
+
+def choice_is_told(tools: Tools, before: str, setup: str, calls: Sequence[str], status: int, told: str) -> None:
+    """What was seen and is not allowed by a choice of fdref's own is told with the reason of tools/compare.py."""
+    words = made_up(tools, "choice", ["".join(f"{call}\n" for call in calls)], setup)
+    acts = [call.split(" ", 2)[2].partition(" = ")[0] for call in calls]
+    Path(words[0]).write_text("".join(f"{line}\n" for line in [f"{before}race", *acts]))
+    done = tools.race(*words)
+    lines = done.stdout.decode().splitlines()
+    require(done.status == status and lines[2].strip() == told, done.said() + f" {lines}")
+
+
 def setup_is_told(tools: Tools) -> None:
     """What the system answers otherwise before the race is told first."""
     done = tools.race(*made_up(tools, "setup", MADE_UP[:1], SETUP.replace("= 0 1", "= 3 4")))
@@ -130,6 +167,8 @@ def tool_cases(tools: Tools) -> Iterator[Case]:
     """What is told of a file."""
     yield "the table", partial(table_is_told, tools)
     yield "what was not seen", partial(unseen_is_told, tools)
+    for choice in CHOICES:
+        yield f"a choice: {choice[2][0]}", partial(choice_is_told, tools, *choice)
     yield "before the race", partial(setup_is_told, tools)
     yield "too many states", partial(states_are_passed_on, tools)
     yield "a wrong fdref", partial(wrong_fdref_is_told, tools)
@@ -153,7 +192,7 @@ def table_of(tools: Tools, name: str, driver: Sequence[str], seconds: float) -> 
     table = race_table.Table(script, race_table.allowed_by([tools.program], script, []))
     for found in race.raced(asked, script.text(), name, seconds):
         table.add(found)
-        yield table.odd(lambda history: race.reason_without_order(script.text(), history, asked.limits))
+        yield table.odd(lambda history: race.reason_without_order(asked, script.text(), history))
 
 
 def system_is_allowed(tools: Tools, name: str) -> None:
