@@ -356,7 +356,10 @@ class Verdict:
         self.past = past.with_names(past.past_of(both.past), self.compared.records, self.compared.limits)
         self.crashes = [CRASHES[number] for number in past.signals(self.past) if number in CRASHES]
         if not self.compared.fdref.total() and not self.compared.system.total():
-            none = "made none of the calls that fdref knows, or does not load the shim, as a static program"
+            none = (
+                "made none of the calls that fdref knows, or does not load the shim, as a static program, or one that "
+                "is given an LD_PRELOAD of its own, as by env: what stands before judge.py is added to the shim"
+            )
             told = told_started(self.compared.started) + past.told_past(self.past)
             raise CannotJudge("; ".join([none, *told]))
         if self.compared.processes > sessions:

@@ -529,7 +529,10 @@ def cannot_run(bench: Bench, words: tuple[str, ...], why: str, variables: tuple[
     same((3, b"", f"judge.py: {why}\n"), (ran.status, ran.stdout, ran.stderr.decode("utf-8")))
 
 
-NO_CALLS = "made none of the calls that fdref knows, or does not load the shim, as a static program"
+NO_CALLS = (
+    "made none of the calls that fdref knows, or does not load the shim, as a static program, or one that is given an "
+    "LD_PRELOAD of its own, as by env: what stands before judge.py is added to the shim"
+)
 
 
 def not_run(bench: Bench) -> Iterator[tuple[str, str, tuple[str, ...], tuple[str, ...]]]:
@@ -545,6 +548,7 @@ def not_run(bench: Bench) -> Iterator[tuple[str, str, tuple[str, ...], tuple[str
     nowhere = ("--program", "/no/fdref", *shim, agrees)
     yield "no program of the server", "no program at /no/fdref", nowhere, ()
     yield "no call", NO_CALLS, (*shim, "true"), ()
+    yield "no shim", NO_CALLS, (*shim, "env", "LD_PRELOAD=", agrees), ()
     left_out = "uses what fdref leaves out: symlink"
     yield "what is left out", left_out, ("--strict", *shim, bench.compiled("judge_strays"), "leaves-out"), ()
     many = "has 7 processes, and the server takes 2 (--sessions, 64 at most)"
