@@ -93,7 +93,7 @@ import past
 import some_order
 from compare_reasons import Reason, told_reason
 from partings import OF_TIME, Compared, Finding, Parting
-from standstill import Standstill, seen_beside
+from standstill import Beside, Standstill, seen_beside
 
 SHIM = TOP / "clients" / "preload" / "fdref_preload.c"
 BUILD_SECONDS = 120
@@ -109,6 +109,12 @@ PAUSE = 0.005
 # How the shim ends a program where the server could not be asked, and what it says of what is left out.
 NOT_ASKED = 124
 LEAVES_OUT = "uses what fdref leaves out: "
+# What the shim says where a call waits that its process is not in any more, and what may be why.
+WITHIN = b"a handler of a signal makes a call while a call waits"
+TOLD_WITHIN = (
+    "a call is made while another one of the same process waits: by a handler of a signal, or after a jump out of one; "
+    "the library cannot do that"
+)
 ALL_TAKEN = b"all sessions are taken"
 IS_TOLD = re.compile(rb"^fdref: (.*)$", re.MULTILINE)
 IS_LEFT_OUT = re.compile(rb"^fdref: (.*) is left out$", re.MULTILINE)
@@ -128,9 +134,17 @@ CRASHES = {
     )
 }
 
+# What may be why the two runs end otherwise.
+BY_ORDER = "the order of the calls"
+BAD_ADDRESS = "a bad address, which is no EFAULT with the shim"
+
 
 class CannotJudge(Exception):
     """The program could not be run or compared."""
+
+
+class NotJudged(CannotJudge):
+    """The program was run, and its calls got no answer at some place."""
 
 
 # ---- running
@@ -245,7 +259,7 @@ class Both(NamedTuple):
 
 class Looker:
     """Looks at a program while it runs with fdref, and tells at once, of each kind the first, that threads wait for
-    another one, and that a signal came in a call that waits."""
+    another one, that a signal came in a call that waits, and that all wait beside a child that a signal ended."""
 
     def __init__(self, still: Standstill, noted: Path) -> None:
         self.still = still
@@ -260,12 +274,16 @@ class Looker:
             self.size = size
             every = past.past_of(self.noted.read_bytes())
             self.tell(every)
-            self.still.interrupted = past.interrupted(every)
-        return self.still.is_met()
+            interrupted, held = past.places_of(past.INTERRUPT, every), past.places_of(past.THREAD, every)
+            self.still.beside = Beside(interrupted, held, tuple(it for it in every if it.kind == past.SIGNAL))
+        is_met = self.still.is_met()
+        if is_met and not self.has_told:
+            self.tell(past.past_of(self.noted.read_bytes()), past.told_signals)
+        return is_met
 
-    def tell(self, every: list[past.Past]) -> None:
+    def tell(self, every: list[past.Past], *kinds: Callable[[list[past.Past]], list[str]]) -> None:
         """Tells the first of each kind, if one is noted."""
-        for kind in (past.told_threads, past.told_interrupts):
+        for kind in kinds or (past.told_threads, past.told_interrupts):
             for told in kind(every)[:1] if kind not in self.has_told else ():
                 self.has_told.add(kind)
                 print(f"judge.py: {told}", file=sys.stderr, flush=True)
@@ -317,11 +335,13 @@ class Job:
         if left_out:
             raise CannotJudge(f"{LEAVES_OUT}{left_out[1].decode('utf-8', 'replace')}")
         said = IS_TOLD.findall(fdref.stderr)
+        if WITHIN in said:
+            raise NotJudged("; ".join([TOLD_WITHIN, *past.told_past(past.past_of(noted.read_bytes()))]))
         if any(ALL_TAKEN in text for text in said) and processes_in(trace) >= self.sessions:
             raise CannotJudge(f"has more than {self.sessions} processes in all{MOST_PROCESSES}")
         if fdref.status == NOT_ASKED and said:
             lost = f"the server gave no answer: {said[-1].decode('utf-8', 'replace')}"
-            raise CannotJudge("; ".join([lost, *past.told_past(past.past_of(noted.read_bytes()))]))
+            raise NotJudged("; ".join([lost, *past.told_past(past.past_of(noted.read_bytes()))]))
         cuts = Path(self.folder, "cuts")
         cuts.touch()
         system, system_log = self.ran("system", FDREF_STARTS="1", FDREF_PAST=str(cuts))
@@ -366,6 +386,8 @@ class Verdict:
             counted = f"has {self.compared.processes} processes, and the server takes {sessions}"
             raise CannotJudge(f"{counted}{MOST_PROCESSES}")
         self.order = self.ordered(program) if program else None
+        self.causes = past.without_early(self.past, self.compared.records)
+        self.bare = self.compared.without_cause(self.has_cause) if self.unexplained else []
 
     def ordered(self, program: list[str]) -> some_order.Ordered | None:
         """Whether some order of the calls of several processes explains the answers of the system."""
@@ -373,17 +395,24 @@ class Verdict:
         doubt = "a process that was killed" if is_killed else past.doubt(self.past)
         if not doubt and past.cuts(past.past_of(self.both.system_past)):
             doubt = "a call of a thread that the end of its process cut off"
+        if not doubt and any(line.outcome in past.OF_RIGHTS for line in self.compared.system_lines):
+            doubt = past.MODES
         return some_order.ordered_of(self.compared, program, doubt)
 
     def differs(self) -> bool:
         """Whether an answer differs that neither a reason nor an order of the calls explains."""
         if self.order and self.order.is_found is not None:
             return not self.order.is_found
-        return self.unexplained is not None and not self.is_open()
+        return bool(self.bare) and not self.is_open()
 
     def is_open(self) -> bool:
         """Whether it is not decided that no order explains an answer that has no reason."""
         return self.unexplained is not None and self.order is not None and self.order.is_found is None
+
+    def is_caused(self) -> bool:
+        """Whether an answer that has no reason may be by something else: an order that was not decided on, or what is
+        no answer of fdref."""
+        return self.unexplained is not None and not (self.order and self.order.is_found)
 
     def reason_of(self, finding: Finding) -> Reason | None:
         """The reason of a finding. Who comes first is none where no order explains the answers."""
@@ -397,9 +426,36 @@ class Verdict:
         return self.order.is_whole or finding.reason in (None, OF_TIME)
 
     def first(self) -> Finding:
-        """The finding that is told: one without a reason, if there is one."""
-        unexplained = (it for it in self.findings if not self.reason_of(it) and not it.follows)
-        return next(unexplained, self.findings[0])
+        """The finding that is told: one without a reason, if there is one, and of these one without a cause."""
+        unexplained = [it for it in self.findings if not self.reason_of(it) and not it.follows]
+        bare = [self.findings[at] for at in self.bare]
+        return next((it for it in unexplained if it in bare), [*unexplained, *self.findings][0])
+
+    def cause_of(self, finding: Finding) -> str:
+        """What a finding without a reason may be by that is no answer of fdref, or nothing."""
+        cause = past.cause_of(finding, self.causes)
+        other = past.other_cause(finding.parting, self.past, self.compared.records)
+        is_crash = not finding.parting.fdref and self.both.fdref.status in (-signal.SIGSEGV, -signal.SIGBUS)
+        return cause.why() if cause else BAD_ADDRESS if is_crash else other
+
+    def has_cause(self, finding: Finding) -> bool:
+        """Whether there is such a thing."""
+        return bool(self.cause_of(finding))
+
+    def cause_of_end(self) -> str:
+        """What may be why the two end otherwise, or write something else, though no answer does without a reason."""
+        one, other = self.both.system, self.both.fdref
+        descriptor = "1" if one.stdout != other.stdout else "2" if one.stderr != other.stderr else ""
+        held = [it for it in self.causes if it.kind == past.THREAD and other.status is None]
+        cause = next(iter(held), None) or past.cause_of_output(descriptor, self.causes)
+        if cause:
+            return cause.why()
+        if self.findings:
+            reason = self.reason_of(self.first()) if self.counted() else None
+            return f"the reason above: {reason.name}" if reason else BY_ORDER
+        late = [it.why() for it in self.causes if it.kind == past.SIGNAL]
+        is_of_modes = past.has_looked(self.past, self.compared.records)
+        return late[0] if late else past.MODES if is_of_modes else past.NUMBERS
 
     def counted(self) -> list[Finding]:
         """The findings that no order explains."""
@@ -417,9 +473,9 @@ class Verdict:
         """The exit status."""
         if self.differs() or not self.audit.startswith("legal "):
             return 1
-        if self.is_open() or not self.has_ended() or crash_of(self.both) or self.crashes:
+        if self.is_caused() or not self.has_ended() or crash_of(self.both) or self.crashes:
             return 3
-        return 0 if self.both.system == self.both.fdref else 1
+        return 0 if self.both.system == self.both.fdref else 3
 
 
 # ---- telling
@@ -458,7 +514,8 @@ def told_ends(verdict: Verdict, seconds: float) -> list[str]:
             lines.append(f"standard {what} differs in {difference(one, other, ('system', 'fdref'))}")
             cause = past.cause_of_output(descriptor, every)
             lines += [compare.clipped(past.told_cause(cause, verdict.compared.lines))] if cause else []
-            lines += past.told_looks(every, verdict.compared.records)
+            is_known = cause and past.BETWEEN.fullmatch(cause.call)
+            lines += [] if is_known else past.told_looks(every, verdict.compared.records)
     return lines
 
 
@@ -489,12 +546,12 @@ def told_line(who: str, line: Line | None) -> str:
 
 def told_finding(verdict: Verdict, before: int) -> list[str]:
     """The first parting, with lines before it and its reason, and what went past fdref that it may follow from."""
-    finding, lines, every = verdict.first(), verdict.compared.lines, verdict.past
+    finding, lines = verdict.first(), verdict.compared.lines
     parting = finding.parting
     earlier = sorted((int(it.place), it) for it in lines if it.place.isdigit() and int(it.place) < parting.place)
     told = [f"  {line.place} {line.act} = {line.outcome}" for _, line in earlier[max(len(earlier) - before, 0) :]]
     told += [told_line("system:", parting.system), told_line("fdref: ", parting.fdref)]
-    cause = past.cause_of(finding, every)
+    cause = past.cause_of(finding, verdict.causes)
     causes = [compare.clipped(past.told_cause(cause, lines))] if cause else []
     told = [compare.clipped(line) for line in told]
     if verdict.is_by_order(finding) and verdict.order:
@@ -504,7 +561,9 @@ def told_finding(verdict: Verdict, before: int) -> list[str]:
     told += [told_reason(verdict.reason_of(finding)), *causes]
     told += [verdict.order.told()] if verdict.order else []
     if parting.is_asked_otherwise():
-        told.append("the calls differ, not the answers: by the number of a process, an address or the time, perhaps")
+        told.append(f"the calls differ, not the answers: by {past.NUMBERS}, perhaps")
+    elif not finding.reason and not cause and verdict.cause_of(finding):
+        told.append(f"perhaps by {verdict.cause_of(finding)}")
     return told
 
 
@@ -541,8 +600,8 @@ def told_unexplained(verdict: Verdict) -> str:
     order explains them."""
     count = sum(not verdict.reason_of(it) and not it.follows for it in verdict.findings)
     differ = several(count, "answer differs without a reason", "answers differ without a reason")
-    cause = past.cause_of(verdict.first(), verdict.past)
-    differ += f", perhaps by {cause.said(' of ')}, which went past fdref" if cause else ""
+    cause = verdict.cause_of(verdict.first())
+    differ += f", perhaps by {cause}" if cause else ""
     return "; ".join([differ, *told_open(verdict.order)])
 
 
@@ -552,10 +611,22 @@ def told_difference(verdict: Verdict) -> str:
         return verdict.order.said
     if verdict.differs():
         return told_unexplained(verdict)
-    if not verdict.audit.startswith("legal "):
-        return "the audit finds a fault in the trace of fdref"
-    told = "the two runs end otherwise, or write something else"
-    return f"{told}, though {verdict.order.said}" if verdict.order and verdict.order.is_found else told
+    return "the audit finds a fault in the trace of fdref"
+
+
+def told_not_judged(verdict: Verdict) -> str:
+    """What status 3 means."""
+    if verdict.is_caused():
+        return told_unexplained(verdict)
+    if not verdict.has_ended():
+        return "neither of the two ended"
+    if crash_of(verdict.both) or verdict.crashes:
+        return "a crash is no agreement"
+    cause, order = verdict.cause_of_end(), verdict.order
+    told = f"the two runs end otherwise, or write something else, perhaps by {cause}"
+    if not order or not order.is_found:
+        return told
+    return f"{told}: {order.said}" if cause == BY_ORDER else f"{told}, though {order.said}"
 
 
 def told_verdict(verdict: Verdict) -> str:
@@ -565,7 +636,7 @@ def told_verdict(verdict: Verdict) -> str:
         return f"verdict: {told_agreement(verdict)}"
     if status == 1:
         return f"verdict: a difference: {told_difference(verdict)}"
-    return f"verdict: not judged: {told_unexplained(verdict)}" if verdict.is_open() else "verdict: not judged"
+    return f"verdict: not judged: {told_not_judged(verdict)}"
 
 
 def told_strict(every: list[past.Past]) -> list[str]:
@@ -695,6 +766,9 @@ def main(words: Sequence[str]) -> int:
     with tempfile.TemporaryDirectory(prefix="judge-") as folder:
         try:
             verdict = job_of(args, folder).verdict()
+        except NotJudged as fault:
+            print(f"verdict: not judged: {fault}")
+            return 3
         except (CannotJudge, Failure) as fault:
             print(f"judge.py: {fault}", file=sys.stderr)
             return 3
@@ -704,7 +778,7 @@ def main(words: Sequence[str]) -> int:
     print(told(verdict, args.seconds, args.before))
     if args.stdin == os.devnull and has_left_input():
         print("judge.py: what is on standard input was not read: --stdin FILE gives it to the program", file=sys.stderr)
-    if verdict.status() == 1 and not args.strict:
+    if verdict.status() != 0 and not args.strict:
         print("".join(f"{line}\n" for line in told_strict(verdict.past)), end="")
     print(told_verdict(verdict))
     return verdict.status()

@@ -5,7 +5,7 @@ are those of tools/compare.py and some more, since a program has processes that 
 """
 
 import itertools
-from collections.abc import Iterator
+from collections.abc import Callable, Iterator
 from typing import NamedTuple
 
 from support import plain_model
@@ -263,9 +263,17 @@ def act_at(parting: Parting) -> plain_model.Act | None:
         return None
 
 
-def findings_of(partings: list[Parting], story: Story) -> list[Finding]:
+def has_none(_: Finding) -> bool:
+    """No finding without a reason is by something else."""
+    return False
+
+
+def findings_of(
+    partings: list[Parting], story: Story, has_cause: Callable[[Finding], bool] = has_none
+) -> list[Finding]:
     """The partings with their reasons. A call may be another one once any process has got another answer; one that is
-    the same has another answer only where what differed before may have reached it."""
+    the same has another answer only where what differed before may have reached it. What has a cause in place of a
+    reason may be followed too."""
     found: list[Finding] = []
     are_apart = False
     for parting in partings:
@@ -275,8 +283,9 @@ def findings_of(partings: list[Parting], story: Story) -> list[Finding]:
         act = act_at(parting)
         follows = not reason and are_apart and (not act or story.reach.reaches(world, act))
         is_settled = bool(difference and difference.is_settled())
-        found.append(Finding(parting, reason, follows, names_of(parting, world), is_settled))
-        is_apart = follows or bool(reason and not is_settled)
+        finding = Finding(parting, reason, follows, names_of(parting, world), is_settled)
+        found.append(finding)
+        is_apart = follows or (not is_settled if reason else has_cause(finding))
         are_apart = are_apart or is_apart
         if is_apart and act:
             story.reach.differs(world, act)
@@ -314,5 +323,11 @@ class Compared:
         check_places(self.lines, self.records)
         story = Story(self.records, self.limits)
         add_waits(self.system, self.fdref, story, is_killed, has_ended)
-        self.findings = findings_of(all_partings(self.system, self.fdref, story), story)
+        self.partings = all_partings(self.system, self.fdref, story)
+        self.findings = findings_of(self.partings, story)
         self.unexplained = next((it for it in self.findings if not it.reason and not it.follows), None)
+
+    def without_cause(self, has_cause: Callable[[Finding], bool]) -> list[int]:
+        """Which findings have no reason, and neither have a cause nor may follow from one that has."""
+        findings = findings_of(self.partings, Story(self.records, self.limits), has_cause)
+        return [at for at, it in enumerate(findings) if not (it.reason or it.follows or has_cause(it))]

@@ -9,6 +9,7 @@ from typing import NamedTuple
 
 from partings import Finding, Parting, names_behind
 from support.auditing import Judge, act_of
+from support.call_logs import word_of
 from support.footprints import CHANGE_DESCRIPTORS
 from support.plain_model import Limits
 from support.runs import Line
@@ -37,6 +38,15 @@ LISTS = re.compile(r"opendir|scandir\w*|glob(?:64)?|n?ftw(?:64)?|fts\w*_open|get
 SETS = re.compile(r"[lf]?chmod\w*|[lf]?chown\w*|umask|(?:f|l)?utime\w*|e?u?i?d?access")
 MOVES = re.compile(r"f?chdir|chroot")
 TAKES = re.compile(r"opendir|mko?stemps?(?:64)?|fts\w*_open|syscall of pipe2?")
+# Calls with two names, which fail where one of them is fdref's and the other one is not.
+BETWEEN = re.compile(r"link(?:at)?|rename(?:at2?)?")
+# What a child that is still there with fdref may answer otherwise: it holds the ends of pipes, or reads them.
+OF_PIPES = ("open", "read", "write", "fstat")
+
+# What a difference may be by that the calls do not tell.
+MODES = "modes, owners and times, which are fdref's own"
+NUMBERS = "the number of a process, an address or the time"
+OF_RIGHTS = ("error EACCES", "error EPERM")
 
 
 class Past(NamedTuple):
@@ -53,10 +63,23 @@ class Past(NamedTuple):
 
     def said(self, between: str = " ") -> str:
         """The call with its name or descriptor, or what it is where it is none."""
-        said = {STDIO: f"stdio on descriptor {self.call}", THREAD: f"a thread that waits in {self.call}"}
+        said = {
+            STDIO: f"stdio on descriptor {self.call}",
+            THREAD: f"a thread that waits in {self.call} and holds its process",
+            SIGNAL: f"signal {self.call}, by which a child ended that fdref may have kept for longer",
+        }
         if self.kind == CALL and self.name.isdigit():
             return f"{self.call} on descriptor {self.name}"
         return said.get(self.kind) or (f"{self.call}{between}{self.name}" if self.name else self.call)
+
+    def is_past(self) -> bool:
+        """Whether it is a call that went past fdref, and not what holds one of fdref."""
+        return self.kind not in (THREAD, SIGNAL)
+
+    def why(self) -> str:
+        """The same as what a difference may be by."""
+        said = self.said(" of ")
+        return f"{said}, which went past fdref" if self.is_past() else said
 
     def descriptor(self) -> str:
         """The descriptor of fdref that it is with, or nothing."""
@@ -65,14 +88,17 @@ class Past(NamedTuple):
     def tells_otherwise(self) -> bool:
         """Whether a program may be told something else than natively: it fails with fdref, or lists what is there."""
         is_plain = self.kind == STREAM and self.is_strict
-        return self.kind in (STDIO, CALL, THREAD, PROGRAM) or is_plain or bool(LISTS.fullmatch(self.call))
+        is_other = bool(LISTS.fullmatch(self.call) or BETWEEN.fullmatch(self.call))
+        return self.kind in (STDIO, CALL, THREAD, PROGRAM) or is_plain or is_other
 
     def may_cause(self, finding: Finding) -> bool:
         """Whether a call may have another answer, or be another call, because of it."""
         parting = finding.parting
         if self.kind in (THREAD, PROGRAM):
             return True
-        if self.kind in (SIGNAL, VFORK, INTERRUPT):
+        if self.kind == SIGNAL:
+            return not parting.fdref or not parting.is_same_call() or word_of(parting.fdref) in OF_PIPES
+        if self.kind in (VFORK, INTERRUPT):
             return False
         if LOOKS.fullmatch(self.call):
             return False
@@ -125,7 +151,9 @@ def told_place(one: Past, lines: list[Line]) -> str:
 
 def told_cause(one: Past, lines: list[Line]) -> str:
     """That a difference may follow from it."""
-    return f"may follow from {one.said(' of ')} (past fdref, {told_place(one, lines)})"
+    past, said = "past fdref, " if one.is_past() else "", one.said(" of ")
+    why = ": EXDEV where just one of its names is fdref's" if BETWEEN.fullmatch(one.call) else ""
+    return f"may follow from {said} ({past}{told_place(one, lines)}){why}"
 
 
 def with_names(every: list[Past], records: list[Line], limits: Limits) -> list[Past]:
@@ -174,7 +202,7 @@ def told_past(every: list[Past]) -> list[str]:
     lines = [f"past fdref: {', '.join(told)}"] if told else []
     for number in sorted({it.call for it in every if it.kind == STDIO}):
         lines.append(f"past fdref: stdio on descriptor {number}, which is a file of fdref, where it would fail")
-    lines += [f"past fdref: {it}" for it in told_threads(every)]
+    lines += told_threads(every)
     has_forked = any(it.kind == VFORK for it in every)
     return [*lines, "vfork is fork in both runs: its child shares no memory with it"] if has_forked else lines
 
@@ -185,12 +213,41 @@ def told_signals(every: list[Past]) -> list[str]:
     return [told.format(", ".join(map(str, signals(every))))] if signals(every) else []
 
 
+def is_late(one: Past, records: list[Line]) -> bool:
+    """Whether a child that a signal ended may have been there with fdref after its parent knew of its end: a process
+    exits after a later call of that parent."""
+    later = (place for place, line in enumerate(records) if place > one.place and line.number() == one.number)
+    first = next(later, len(records))
+    return any(line.act.endswith(" exit") for line in records[first + 1 :])
+
+
+def without_early(every: list[Past], records: list[Line]) -> list[Past]:
+    """The same without the children that a signal ended and that were gone in time."""
+    return [it for it in every if it.kind != SIGNAL or is_late(it, records)]
+
+
+def has_looked(every: list[Past], records: list[Line]) -> bool:
+    """Whether a program asked for modes or times, or set them."""
+    is_asked = any(line.act.split(" ")[1] == "fstat" for line in records)
+    return is_asked or any(SETS.fullmatch(it.call) for it in every)
+
+
 def told_looks(every: list[Past], records: list[Line]) -> list[str]:
     """That what is written may tell of modes or times, where the program asked for them."""
-    has_looked = any(line.act.split(" ")[1] == "fstat" for line in records)
-    has_set = any(SETS.fullmatch(it.call) for it in every)
     told = "may follow from a stat, fstat, access or chmod: modes, owners, times and blocks are fdref's own"
-    return [told] if has_looked or has_set else []
+    return [told] if has_looked(every, records) else []
+
+
+def other_cause(parting: Parting, every: list[Past], records: list[Line]) -> str:
+    """What a parting may be by that is no call past fdref, or nothing: an owner's right, or what the program was told
+    that fdref has no part in, as its own number, after which it makes another call."""
+    answer = parting.system.outcome if parting.system else ""
+    if answer in OF_RIGHTS:
+        return MODES
+    if parting.is_asked_otherwise():
+        return NUMBERS
+    before = [it for it in every if it.place < parting.place]
+    return MODES if not parting.is_same_call() and has_looked(before, records[: parting.place]) else ""
 
 
 def doubt(every: list[Past]) -> str:
@@ -210,9 +267,9 @@ def signals(every: list[Past]) -> list[int]:
     return sorted({int(it.call) for it in every if it.kind == SIGNAL})
 
 
-def interrupted(every: list[Past]) -> dict[int, int]:
-    """Of each process the place of the record after which a signal came last in a call of it that waits."""
-    return {it.number: it.place for it in every if it.kind == INTERRUPT}
+def places_of(kind: str, every: list[Past]) -> dict[int, int]:
+    """Of each process the place of the record after which one of a kind came last."""
+    return {it.number: it.place for it in every if it.kind == kind}
 
 
 def told_interrupts(every: list[Past]) -> list[str]:

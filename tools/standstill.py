@@ -1,6 +1,7 @@
 """Whether a program stands still with fdref and would go on with the system: all its processes wait in calls, one of
-them in a write for which a pipe of fdref is too small, or in a call that a signal would have ended. A parent may wait
-for the end of its children instead."""
+them in a write for which a pipe of fdref is too small, in a call that a signal would have ended, or in one that keeps
+other threads from theirs; or a child that a signal had ended was still there. A parent may wait for the end of its
+children instead."""
 
 import contextlib
 import os
@@ -14,6 +15,8 @@ from support.plain_model import DEFAULTS, PIPE_CAPACITY_MOST, Process, WaitingWr
 from support.runs import Line, line_of
 from support.trees import children_of, parents
 
+from past import Past, is_late
+
 # How long no record may come before the processes are looked at.
 STILL_SECONDS = 2.0
 # Where a process sleeps in the system that waits for a child to end.
@@ -25,6 +28,15 @@ class Seen(NamedTuple):
 
     live: int
     waiting: int
+
+
+class Beside(NamedTuple):
+    """What is noted beside the records: of each process the place after which a signal came last in its call, and that
+    after which another thread of it waited; and the children that a signal ended."""
+
+    interrupted: Mapping[int, int] = {}
+    held: Mapping[int, int] = {}
+    ended: tuple[Past, ...] = ()
 
 
 def seen_beside(server: int) -> Seen:
@@ -41,31 +53,31 @@ def seen_beside(server: int) -> Seen:
 
 
 class Standstill:
-    """Looks at the trace of a server that runs, and at the signals in its calls that wait, of each process the place of
-    the record before; `told` says what its processes stand still at, once they do."""
+    """Looks at the trace of a server that runs, and at what is noted beside it; `told` says what its processes stand
+    still at, once they do."""
 
     def __init__(self, trace: str, look: Callable[[], Seen]) -> None:
         self.trace = trace
         self.look = look
         self.told = ""
-        self.interrupted: Mapping[int, int] = {}
-        self.known: tuple[int, Mapping[int, int]] = (-1, {})
+        self.beside = Beside()
+        self.known = (-1, self.beside)
         self.since = 0.0
         self.is_known = False
 
     def is_met(self) -> bool:
         """Whether the processes stand still. Each length of the trace is judged once, after it stayed for a while, and
-        again after a signal."""
-        known, now = (os.path.getsize(self.trace), self.interrupted), time.monotonic()
+        again after more is noted."""
+        known, now = (os.path.getsize(self.trace), self.beside), time.monotonic()
         if known != self.known:
             self.known, self.since, self.is_known = known, now, False
         elif not self.is_known and now - self.since >= STILL_SECONDS:
             self.is_known = True
-            self.told = told(Path(self.trace).read_bytes(), self.look, self.interrupted)
+            self.told = told(Path(self.trace).read_bytes(), self.look, self.beside)
         return bool(self.told)
 
 
-def told(trace: bytes, look: Callable[[], Seen], interrupted: Mapping[int, int]) -> str:
+def told(trace: bytes, look: Callable[[], Seen], beside: Beside) -> str:
     """What the processes of a trace stand still at, or nothing where they may go on: one is in no call, and is no
     parent that waits for a child, or there is one that fdref does not know."""
     frames = Frames(trace)
@@ -75,11 +87,30 @@ def told(trace: bytes, look: Callable[[], Seen], interrupted: Mapping[int, int])
         judge.outcome_of(act_of(line.act))
     live = judge.world.processes.values()
     going = [it for it in live if not (it.attached and it.waits and not it.waits.is_ready(judge.world))]
-    small = next((it for it in live if is_for_want_of_room(it, judge.world)), None)
-    ended = next((it for it in live if it.waits and interrupted.get(it.number) == last_place(it, lines)), None)
-    if not (small or ended) or any(it.waits for it in going) or (going and look() != Seen(len(live), len(going))):
+    waiting = [it for it in live if it.waits]
+    why = next((said for it in waiting if (said := told_wait(it, lines, judge.world, beside))), "")
+    why = why or (told_late(waiting[0], lines, beside) if waiting else "")
+    if not why or any(it.waits for it in going) or (going and look() != Seen(len(live), len(going))):
         return ""
-    return told_write(small, lines, judge.world) if small else told_signal(ended, lines) if ended else ""
+    return f"stood still, and was killed: {why}"
+
+
+def told_wait(process: Process, lines: list[Line], world: World, beside: Beside) -> str:
+    """The call that a process waits in, and why it would not wait in the system, or nothing."""
+    if is_for_want_of_room(process, world):
+        return told_write(process, lines, world)
+    call, place = call_of(process, lines).act, last_place(process, lines)
+    if beside.interrupted.get(process.number) == place:
+        return f"{call}, which a signal ends in the system alone"
+    if beside.held.get(process.number) == place:
+        return f"{call}, in which a thread waits and holds its process"
+    return ""
+
+
+def told_late(process: Process, lines: list[Line], beside: Beside) -> str:
+    """The call that a process waits in, and the child that fdref may have kept for too long, or nothing."""
+    late = next((it for it in beside.ended if is_late(it, lines)), None)
+    return f"{call_of(process, lines).act}, perhaps by {late.said()}" if late else ""
 
 
 def is_for_want_of_room(process: Process, world: World) -> bool:
@@ -101,15 +132,9 @@ def call_of(process: Process, lines: list[Line]) -> Line:
     return next(it for it in reversed(lines) if it.act.startswith(who) and it.act != f"{who}resume")
 
 
-def told_signal(process: Process, lines: list[Line]) -> str:
-    """The call that a process waits in, which a signal would have ended."""
-    return f"stood still, and was killed: {call_of(process, lines).act}, which a signal ends in the system alone"
-
-
 def told_write(process: Process, lines: list[Line], world: World) -> str:
     """The write that a process waits in, for a reader."""
     assert process.waits
     call = call_of(process, lines)
     room = f"a pipe of fdref holds {world.limits.capacity:,} bytes (--pipe-capacity {PIPE_CAPACITY_MOST})"
-    where = f"{call.act}, of which {process.waits.moved:,} bytes went in"
-    return f"stood still, and was killed: {where}: {room}"
+    return f"{call.act}, of which {process.waits.moved:,} bytes went in: {room}"

@@ -1,7 +1,7 @@
 /* Does what the answers of no two systems agree on.
 
    usage: judge_strays call|answer|output|leaves-out|passes|spawns|starts|stdio|closes|streams|threads|looks|vforks
-                      |copies
+                      |copies|cancels|modes|renames
 
    call        writes the number of its process into a file
    answer      changes a file by a system call that no library sees, and asks for the size of it
@@ -16,7 +16,10 @@
    threads     has a thread that waits for what another one writes
    looks       has a file at descriptor 0 and prints when its own file was changed
    vforks      has a child by vfork
-   copies      copies its file by copy_file_range, or by a read and a write where it cannot, as cat does */
+   copies      copies its file by copy_file_range, or by a read and a write where it cannot, as cat does
+   cancels     cancels a thread that waits, and reads what it writes then
+   modes       ends where the mode of its file is another one
+   renames     prints whether its file can be moved into a folder that it makes */
 
 #define _GNU_SOURCE
 
@@ -66,13 +69,16 @@ static int starts(int fd)
     return !input || fputs("text", input) < 0 || pclose(input) != 0;
 }
 
-static int fails_with(const char *what, int fd)
+static int ends[2];
+
+/* It has with fdref, where each mode is 0644. */
+static int has_other_mode(int fd)
 {
-    return (strcmp(what, "passes") == 0 && passes(fd) != 0) || (strcmp(what, "copies") == 0 && copies(fd) != 0)
-        || (strcmp(what, "starts") == 0 && starts(fd) != 0);
+    struct stat told;
+    return fstat(fd, &told) != 0 || (told.st_mode & 0777) != 0600;
 }
 
-static int ends[2];
+static int renames(void) { return mkdir("d", 0700) != 0 || printf("%d\n", rename("a", "d/n")) < 0; }
 
 static void *wait_for_byte(void *unused)
 {
@@ -89,6 +95,18 @@ static int threads(void)
     return write(ends[1], "z", 1) != 1 || pthread_join(thread, NULL) != 0;
 }
 
+static int cancels(void)
+{
+    char byte;
+    pthread_t thread;
+    if (pipe(ends) != 0 || pthread_create(&thread, NULL, wait_for_byte, NULL) != 0)
+        return 1;
+    usleep(200000);
+    if (pthread_cancel(thread) != 0 || pthread_join(thread, NULL) != 0)
+        return 1;
+    return write(ends[1], "z", 1) != 1 || read(ends[0], &byte, 1) != 1;
+}
+
 static int vforks(void)
 {
     int status;
@@ -96,6 +114,13 @@ static int vforks(void)
     if (child == 0)
         _exit(0);
     return child < 0 || waitpid(child, &status, 0) != child || status != 0;
+}
+
+static int fails_with(const char *what, int fd)
+{
+    return (strcmp(what, "passes") == 0 && passes(fd) != 0) || (strcmp(what, "copies") == 0 && copies(fd) != 0)
+        || (strcmp(what, "starts") == 0 && starts(fd) != 0) || (strcmp(what, "cancels") == 0 && cancels() != 0)
+        || (strcmp(what, "modes") == 0 && has_other_mode(fd)) || (strcmp(what, "renames") == 0 && renames() != 0);
 }
 
 int main(int count, char **words)

@@ -11,6 +11,7 @@ from support.trees import Ended
 import judge
 import past
 import some_order
+import standstill
 
 WELL = Ended(0, b"", b"")
 KILLED = Ended(None, b"", b"")
@@ -26,6 +27,8 @@ class Logs(NamedTuple):
     found: list[str]
     system_ends: Ended = WELL
     fdref_ends: Ended = WELL
+    # what a finding without a reason is perhaps by
+    cause: str = ""
 
 
 A_FILE = "0 p0 join = 0; 1 p0 open a rw,creat,append = 0; 2 p0 write 0 x6162 = 2; "
@@ -73,12 +76,21 @@ LOGS = [
         "p0 close 7 = error EBADF; p0 close 8 = error EBADF",
         "0 p0 join = 0; 1 p0 close 7 = error EBADF; 2 p0 close 9 = error EBADF; 3 p0 close 9 = error EBADF",
         ["p0 close 9: close 8, error EBADF: none"],
+        cause=past.NUMBERS,
     ),
     Logs(
         "a call more",
         "p0 close 7 = error EBADF",
         "0 p0 join = 0; 1 p0 close 7 = error EBADF; 2 p0 close 9 = error EBADF",
         ["p0 close 9: no call, error EBADF: none"],
+    ),
+    Logs(
+        "a call less, after which a signal ends the run with fdref, as at a bad address",
+        "p0 close 7 = error EBADF; p0 close 8 = error EBADF",
+        "0 p0 join = 0; 1 p0 close 7 = error EBADF",
+        ["p0 close 8: error EBADF, None: none"],
+        fdref_ends=Ended(-11, b"", b""),
+        cause=judge.BAD_ADDRESS,
     ),
     Logs(
         "what follows from a pwrite under append",
@@ -366,9 +378,10 @@ def are_found(logs: Logs) -> None:
     verdict = judge.Verdict(both, f"legal {len(trace)} rest 0")
     same(logs.found, found_in(verdict))
     unexplained = any(text.endswith(": none") for text in logs.found)
+    wanted = 1 if unexplained and not logs.cause else 3 if logs.system_ends != logs.fdref_ends else 0
     has_ended = logs.system_ends.status is not None or logs.fdref_ends.status is not None
-    wanted = 1 if unexplained else 3 if not has_ended else int(logs.system_ends != logs.fdref_ends)
-    same(wanted, verdict.status())
+    same(3 if logs.cause or not has_ended else wanted, verdict.status())
+    require(judge.told_verdict(verdict).endswith(f", perhaps by {logs.cause}" if logs.cause else ""), str(logs.cause))
 
 
 class Orders(NamedTuple):
@@ -389,6 +402,7 @@ AN_ORDER = "an order of these calls gives all answers of the system"
 OTHERS = AN_ORDER.replace("all answers", "all other answers")
 NO_ORDER = "no order of these calls gives all answers of the system"
 OPEN_ORDER = f"not decided whether {AN_ORDER}: "
+KEPT = "signal 15, by which a child ended that fdref may have kept for longer"
 NOT_DECIDED = "not decided is whether the order of the calls explains it"
 LESS = "no fault found, which is less than agreement: "
 TWO = "p0 pipe = 0 1; p0 fork = 1; p0 fork = 2; "
@@ -544,6 +558,14 @@ ORDERS = [
         "- 8 p0 signal 9",
     ),
     Orders(
+        "rights that fdref has not",
+        TWO + "p1 open l w,creat,excl = 2; p2 open l w = error EACCES",
+        TWO_HERE + "6 p1 open l w,creat,excl = 2; 7 p2 open l w = 2",
+        f"{OPEN_ORDER}none was found, but {past.MODES} may be why",
+        f"not judged: 1 answer differs without a reason, perhaps by {past.MODES}; {NOT_DECIDED}",
+        3,
+    ),
+    Orders(
         "two threads, each of which gets what the other one has with fdref",
         "p0 open a rw,creat = 0; p0 write 0 x61 = 1; -1 p0 write 0 x62 = 1; p0 pread 0 0 9 = x6261",
         "0 p0 join = 0; 1 p0 open a rw,creat = 0; 2 p0 write 0 x61 = 1; 3 p0 write 0 x62 = 1; "
@@ -590,7 +612,7 @@ ORDERS = [
         "p0 mkfifo f = ok; p0 open f r = 0; -1 p0 open f w = 1; p0 close 7 = ok",
         "0 p0 join = 0; 1 p0 mkfifo f = ok; 2 p0 open f r,nonblock = 0; 3 p0 open f w = 1; 4 p0 close 7 = error EBADF",
         f"{OPEN_ORDER}a thread may have waited in a call",
-        f"not judged: 1 answer differs without a reason; {NOT_DECIDED}",
+        f"not judged: 1 answer differs without a reason, perhaps by {past.NUMBERS}; {NOT_DECIDED}",
         3,
     ),
     Orders(
@@ -625,6 +647,9 @@ def order_cases(program: str) -> Iterator[Case]:
     yield "a child that a signal ended", tells_signals
     yield "a search that is given up", gives_up
     yield "stdio on what is no output", blames_outputs
+    yield "a child that was kept", tells_kept
+    yield "an answer without a cause after one that has one", first_without
+    yield "what a run stands still at", stands_still
 
 
 def tells_hidden() -> None:
@@ -674,6 +699,59 @@ def ending(verdict: judge.Verdict) -> tuple[str, int]:
     return judge.told_verdict(verdict), verdict.status()
 
 
+def tells_kept() -> None:
+    """That a child which a signal ended was kept may be why an answer differs, where it exits after a later call of its
+    parent."""
+    lines = "p0 pipe = 0 1; p0 fork = 1; p0 write 1 x79 = 1"
+    trace = lines_of(
+        f"{A_PIPE}4 p1 read 0 1 = parked 0; 5 p0 write 1 x79 = 1; 6 p1 resume = x79; 7 p1 exit = ok; "
+        "8 p0 read 0 1 = parked 0; 9 p0 exit = ok; 10 house close-run = ok"
+    )
+    log = ["1 p0 pipe = 0 1", "2 p0 fork = 1", "5 p0 write 1 x79 = 1"]
+    system = as_bytes([f"- {line}" for line in lines_of(f"{lines}; p0 read 0 1 = x79")])
+    for place, cause in ((2, f", perhaps by {KEPT}"), (8, "")):
+        noted = as_bytes([f"- {place} p0 signal 15"])
+        both = judge.Both(WELL, KILLED, system, as_bytes(log), trace_of(trace), noted)
+        verdict = judge.Verdict(both, "legal 11 rest 0")
+        what, status = ("not judged", 3) if cause else ("a difference", 1)
+        same((f"verdict: {what}: 1 answer differs without a reason{cause}", status), ending(verdict))
+
+
+def first_without() -> None:
+    """An answer that no call past fdref may be why of is a difference, and told, also after one that has such a cause;
+    one that this may have reached is none."""
+    lines = "p0 open a rw,creat = 0; p0 unlink h = {}; p0 unlink h = {}; p0 lseek 0 0 cur = {}"
+    none, calls = "error ENOENT", lines_of(lines)
+    trace = ["0 p0 join = 0", *(f"{at} {line}" for at, line in enumerate(calls, 1))]
+    trace = lines_of("; ".join(trace).format(none, none, 0))
+    noted = as_bytes(["! 1 p0 stream fopen\th"])
+    for offset, status, first in ((5, 1, "lseek"), (0, 3, "unlink")):
+        system = as_bytes([f"- {line}" for line in lines_of(lines.format("ok", "ok", offset))])
+        both = judge.Both(WELL, WELL, system, as_bytes(logged(trace)), trace_of(trace), noted)
+        verdict = judge.Verdict(both, "legal 5 rest 0")
+        parting = verdict.first().parting
+        same((status, first), (verdict.status(), parting.fdref and parting.fdref.act.split(" ")[1]))
+
+
+def stands_still() -> None:
+    """A run stands still where all wait and a thread, a signal or a child that was kept is noted."""
+    here = "0 p0 join = 0; 1 p0 pipe = 0 1; 2 p0 fork = 1; 3 p1 attach = ok; "
+    gone = here + "4 p1 exit = ok; 5 p0 read 0 1 = parked 0"
+    kept = here + "4 p1 read 0 1 = parked 0; 5 p0 write 1 x79 = 1; 6 p1 resume = x79; 7 p1 exit = ok; "
+    signal = past.Past(False, 2, 0, past.SIGNAL, "15", "")
+    for text, beside, wanted in (
+        (gone, standstill.Beside(), ""),
+        (gone, standstill.Beside(held={0: 5}), "p0 read 0 1, in which a thread waits and holds its process"),
+        (gone, standstill.Beside(held={0: 2}), ""),
+        (gone, standstill.Beside({0: 5}), "p0 read 0 1, which a signal ends in the system alone"),
+        (gone, standstill.Beside(ended=(signal,)), ""),
+        (kept + "8 p0 read 0 1 = parked 0", standstill.Beside(ended=(signal,)), f"p0 read 0 1, perhaps by {KEPT}"),
+        (kept + "8 p0 close 0 = ok", standstill.Beside(ended=(signal,)), ""),
+    ):
+        said = standstill.told(trace_of(lines_of(text)), lambda: standstill.Seen(0, 0), beside)
+        same(f"stood still, and was killed: {wanted}" if wanted else "", said)
+
+
 def blames_outputs() -> None:
     """What is written differs because of stdio on a file of fdref only where that is one of the outputs."""
     for descriptor, is_blamed_for_it in (("0", False), ("1", True), ("2", True)):
@@ -717,9 +795,13 @@ def is_blamed(causes: Causes) -> None:
         trace_of(trace),
         as_bytes(lines_of(causes.past)),
     )
-    said = judge.told(judge.Verdict(both, f"legal {len(trace)} rest 0"), 60, 0).splitlines()
+    verdict = judge.Verdict(both, f"legal {len(trace)} rest 0")
+    said = judge.told(verdict, 60, 0).splitlines()
     told = [line.partition(" from ")[2].partition(" (past")[0] for line in said if line.startswith("may follow ")]
     same([causes.told] if causes.told else [], told)
+    differs = "1 answer differs without a reason"
+    by_it = f"verdict: not judged: {differs}, perhaps by {causes.told}, which went past fdref"
+    same((by_it, 3) if causes.told else (f"verdict: a difference: {differs}", 1), ending(verdict))
 
 
 def is_unlike(log: str) -> None:

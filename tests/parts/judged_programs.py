@@ -117,6 +117,11 @@ NEITHER = "neither ended in 2 seconds: both were killed"
 WELL = "both ended with status 0"
 THREAD = b"judge.py: a thread waits in read, and no other one can make a call meanwhile\n"
 SIGNAL = b"judge.py: a signal comes while read waits, and ends no call of fdref\n"
+NOT_JUDGED = "verdict: not judged: "
+ENDS_OTHERWISE = f"{NOT_JUDGED}the two runs end otherwise, or write something else"
+NUMBERS = "the number of a process, an address or the time"
+MODES = "modes, owners and times, which are fdref's own"
+HOLDS = "a thread that waits in read and holds its process"
 BAD_ADDRESS = "a crash (SIGSEGV) is no agreement: with the shim a bad address is no EFAULT"
 
 PROGRAMS = [
@@ -144,14 +149,59 @@ PROGRAMS = [
     Judged(
         "appends",
         ("tell",),
-        1,
-        (WELL, r"standard output differs in line 1: system 'oldN\n', fdref 'Nld\n'", APPENDS, "audit: legal"),
+        3,
+        (
+            WELL,
+            r"standard output differs in line 1: system 'oldN\n', fdref 'Nld\n'",
+            APPENDS,
+            "audit: legal",
+            f"{ENDS_OTHERWISE}, perhaps by the reason above: pwrite under O_APPEND appends",
+        ),
     ),
-    Judged("strays", ("call",), 1, (WELL, "  5 p0 open a rw,creat = 3", NONE, "       1 without a reason")),
+    Judged(
+        "strays",
+        ("call",),
+        3,
+        (
+            WELL,
+            "  5 p0 open a rw,creat = 3",
+            NONE,
+            f"the calls differ, not the answers: by {NUMBERS}, perhaps",
+            "       1 without a reason",
+            f"{NOT_JUDGED}1 answer differs without a reason, perhaps by {NUMBERS}",
+        ),
+    ),
+    Judged(
+        "strays",
+        ("modes",),
+        3,
+        (
+            "system: ended with status 0",
+            "fdref:  ended with status 1",
+            "system: p0 fstat 3 = regular 0 1",
+            "fdref:  no further call",
+            NONE,
+            f"perhaps by {MODES}",
+            f"{NOT_JUDGED}1 answer differs without a reason, perhaps by {MODES}",
+        ),
+    ),
+    Judged(
+        "strays",
+        ("renames",),
+        3,
+        (
+            WELL,
+            r"standard output differs in line 1: system '0\n', fdref '-1\n'",
+            "may follow from rename of d/n (past fdref, before line 7): EXDEV where just one of its names is fdref's",
+            "3 calls of 1 process: no answer differs",
+            "past fdref: 2 paths (first mkdir d)",
+            f"{ENDS_OTHERWISE}, perhaps by rename of d/n, which went past fdref",
+        ),
+    ),
     Judged(
         "strays",
         ("answer",),
-        1,
+        3,
         (
             WELL,
             "system: p0 fstat 3 = regular 3 1",
@@ -160,25 +210,30 @@ PROGRAMS = [
             "may follow from syscall of write on descriptor 3 (past fdref, before line 6)",
             "past fdref: 1 other call (syscall of write on descriptor 3)",
             "--strict ends it at syscall of write on descriptor 3",
-            "verdict: a difference: 1 answer differs without a reason, perhaps by syscall of write on descriptor 3, ",
+            f"{NOT_JUDGED}1 answer differs without a reason, perhaps by syscall of write on descriptor 3, ",
         ),
         ("--before", "0"),
     ),
     Judged(
         "strays",
         ("copies",),
-        1,
+        3,
         (
             WELL,
             "system: p0 close 4 = ok",
             "fdref:  8 p0 read 3 4 = x74657874",
             NONE,
             "may follow from copy_file_range on descriptor 3 (past fdref, before line 8)",
-            "verdict: a difference: 1 answer differs without a reason, perhaps by copy_file_range on descriptor 3, ",
+            f"{NOT_JUDGED}1 answer differs without a reason, perhaps by copy_file_range on descriptor 3, ",
         ),
         ("--before", "0"),
     ),
-    Judged("strays", ("output",), 1, (WELL, "3 calls of 1 process: no answer differs")),
+    Judged(
+        "strays",
+        ("output",),
+        3,
+        (WELL, "3 calls of 1 process: no answer differs", f"{ENDS_OTHERWISE}, perhaps by {MODES}"),
+    ),
     Judged(
         "strays",
         ("leaves-out",),
@@ -200,7 +255,7 @@ PROGRAMS = [
     Judged(
         "strays",
         ("stdio",),
-        1,
+        3,
         (
             WELL,
             "system: p0 fstat 3",
@@ -228,7 +283,7 @@ PROGRAMS = [
     Judged(
         "strays",
         ("streams",),
-        1,
+        3,
         (
             WELL,
             r"standard output differs in line 1: system '', fdref 'no log\n'",
@@ -247,32 +302,47 @@ PROGRAMS = [
     Judged(
         "strays",
         ("threads",),
-        1,
+        3,
         (
             "system: ended with status 0",
-            "fdref:  did not end in 2 seconds, and was killed",
+            "fdref:  stood still, and was killed: p0 read 4 1, in which a thread waits and holds its process",
             "system: p0 write 5 x7a = 1",
             "fdref:  7 p0 read 4 1 = parked 0",
             f"reason: {AN_ORDER}",
-            "may follow from a thread that waits in read (past fdref, after line 6)",
-            "past fdref: a thread waits in read, and no other one can make a call meanwhile",
+            f"may follow from {HOLDS} (after line 6)",
+            "a thread waits in read, and no other one can make a call meanwhile",
             "audit: legal",
-            "--strict ends it at a thread that waits in read",
+            f"--strict ends it at {HOLDS}",
+            f"{ENDS_OTHERWISE}, perhaps by {HOLDS}, though {AN_ORDER}",
         ),
-        SOON,
+        LATE,
+        THREAD,
+    ),
+    Judged(
+        "strays",
+        ("cancels",),
+        3,
+        (
+            "system: ended with status 0",
+            "fdref:  stood still, and was killed: p0 read 4 1, in which a thread waits and holds its process",
+            NONE,
+            f"may follow from {HOLDS} (after line 6)",
+            f"{NOT_JUDGED}1 answer differs without a reason, perhaps by {HOLDS}",
+        ),
+        LATE,
         THREAD,
     ),
     Judged(
         "strays",
         ("looks",),
-        1,
+        3,
         (
             WELL,
             r"standard output differs in line 1: system '1\n', fdref '0\n'",
             "may follow from a stat, fstat, access or chmod: modes, owners, times and blocks are fdref's own",
             "5 calls of 1 process: no answer differs",
             "past fdref: stdio on descriptor 0",
-            "verdict: a difference: the two runs end otherwise, or write something else",
+            f"{ENDS_OTHERWISE}, perhaps by {MODES}",
         ),
     ),
     Judged(
@@ -297,16 +367,26 @@ PROGRAMS = [
     Judged(
         "signals",
         ("interrupts",),
-        1,
+        3,
         (
             "system: ended with status 0",
             "fdref:  stood still, and was killed: p0 read 4 1, which a signal ends in the system alone",
             "system: p0 read 4 1 = error EINTR",
             "fdref:  7 p0 read 4 1 = parked 0",
             "reason: a signal ends a call (EINTR), and signals are outside fdref (own; XSH 2.4.4)",
+            f"{ENDS_OTHERWISE}, perhaps by the reason above: a signal ends a call",
         ),
         LATE,
         SIGNAL,
+    ),
+    Judged(
+        "signals",
+        ("jumps",),
+        3,
+        (
+            f"{NOT_JUDGED}a call is made while another one of the same process waits: by a handler of a signal, or "
+            "after a jump out of one; the library cannot do that",
+        ),
     ),
     Judged("signals", ("aborts",), 3, ("both ended by signal 6", "a crash (SIGABRT) is no agreement", "1 call")),
     Judged("signals", ("stops",), 0, ("both ended by signal 15", "1 call of 1 process: no answer differs")),
@@ -314,7 +394,7 @@ PROGRAMS = [
     Judged(
         "stays",
         ("fills",),
-        1,
+        3,
         (
             "system: ended with status 0",
             f"fdref:  {STILL}",
@@ -328,7 +408,7 @@ PROGRAMS = [
     Judged(
         "stays",
         ("forks",),
-        1,
+        3,
         (
             f"fdref:  {STILL}",
             "2 calls of 1 process: 3 answers differ",
@@ -342,7 +422,7 @@ PROGRAMS = [
     Judged(
         "stays",
         ("waits",),
-        1,
+        3,
         (
             "system: ended with status 0",
             f"fdref:  {STILL.replace('p0', 'p1')}",
@@ -357,7 +437,7 @@ PROGRAMS = [
     Judged("stays", ("forks",), 0, (WELL,), ("--pipe-capacity", "65536")),
     # pipes of 2,000 bytes have room, and those of 1,999 have not
     Judged("stays", ("fills",), 0, (WELL,), ("--pipe-capacity", "2000")),
-    Judged("stays", ("fills",), 1, ("system: ended with status 0", "fdref:  stood still"), ("--pipe-capacity", "1999")),
+    Judged("stays", ("fills",), 3, ("system: ended with status 0", "fdref:  stood still"), ("--pipe-capacity", "1999")),
     Judged("stays", ("leaves",), 3, (NEITHER,), SOON),
 ]
 
@@ -379,6 +459,7 @@ def cases(bench: Bench) -> Iterator[Case]:
     for judged in PROGRAMS:
         yield " ".join(["judge_" + judged.name, *judged.words]), partial(is_said, bench, judged)
     yield "a thread that waits, at once", partial(tells_at_once, bench)
+    yield "a child that a signal ended while it waits", partial(kills_late, bench)
     yield "writes that are torn", partial(finds_torn_writes, bench)
     yield "threads in a log", partial(names_threads, bench)
     yield "a process that ends beside a thread", partial(ends_beside_threads, bench)
@@ -433,6 +514,22 @@ def ends_beside_threads(bench: Bench) -> None:
         require(ran.status in (0, 3) and ran.stdout.startswith(f"{WELL}\n".encode()), ran.said())
 
 
+def kills_late(bench: Bench) -> None:
+    """Where fdref keeps a child for longer than the parent knows of, which takes the byte that the parent waits for,
+    the run is ended early, which is told at once, and nothing is judged."""
+    told = "signal 9: fdref may record the exit of a child that it ended after its parent's wait"
+    for _ in range(TRIES):
+        ran = bench.judged("--shim", bench.shim(), *LATE, bench.compiled("judge_signals"), "late")
+        last = ran.stdout.decode("ascii").splitlines()[-1]
+        if ran.status == 0:
+            same((b"", "verdict: agreement: no answer differs"), (ran.stderr, last))
+        else:
+            same((3, f"judge.py: {told}\n"), (ran.status, ran.stderr.decode("utf-8")))
+            cause = "signal 9, by which a child ended that fdref may have kept for longer"
+            start = f"{NOT_JUDGED}2 answers differ without a reason, perhaps by {cause}"
+            require(last.startswith(start), ran.said())
+
+
 def finds_torn_writes(bench: Bench) -> None:
     """That the writes of a wrong C library to a pipe are torn is no matter of who comes first."""
     library = bench.path("torn.so")
@@ -479,8 +576,8 @@ def tells_of_strict(bench: Bench) -> None:
     for word, wanted in (("spawns", "--strict ends it at system exit 3"), ("output", "audit: legal")):
         ran = bench.judged("--shim", bench.shim(), bench.compiled("judge_strays"), word)
         before, last = ran.stdout.decode("ascii").splitlines()[-2:]
-        require(ran.status == 1 and before.startswith(wanted), ran.said())
-        same("verdict: a difference: the two runs end otherwise, or write something else", last)
+        require(ran.status == 3 and before.startswith(wanted), ran.said())
+        require(last.startswith(f"{ENDS_OTHERWISE}, perhaps by "), ran.said())
 
 
 def builds_shim(bench: Bench) -> None:
