@@ -15,13 +15,18 @@ The program is run twice, each time in an empty folder and with 32 descriptors a
 server that answers its calls in place of the system, and once natively. A library that is loaded before
 the C library (the shim, clients/preload) makes its calls, so it need not be changed. The shim is
 compiled for this run, by $CC or cc, unless --shim names a built one. A statically linked program does
-not load it. What fdref leaves out goes past it to the system, and is not judged: paths with a slash,
-folders, streams of stdio, other programs. The shim notes what it sees of that, and it is told by kinds,
-each with the first of it; --keep has all. A difference after it is told to may follow from it: from what
-has the same name, if any, else from the last; one of what is written to a stream, from the first. Under
---strict it ends the program. Calls that the C library makes inside are not seen: so printf is lost where
-dup2 puts a file of fdref at descriptor 1. Of threads one makes a call at a time, so where one waits the
-others do, which is told at once on standard error.
+not load it, nor one that is given another LD_PRELOAD, as by `env LD_PRELOAD=..`; one that stands before
+this command is loaded beside it. System calls that are made in assembler are not seen at all, and may
+give a difference without a reason. What fdref leaves out goes past it to the system, and is not judged:
+paths with a slash, folders, streams of stdio, other programs. The shim notes what it sees of that, and it
+is told by kinds, each with the first of it; --keep has all. A difference after it is told to may follow
+from it: from what has the same name, if any, else from the last; one of what is written to a stream, from
+the first. Under --strict it ends the program. Calls that the C library makes inside are not seen: so
+printf is lost where dup2 puts a file of fdref at descriptor 1. Of threads one makes a call at a time, so
+where one waits the others do, which is told at once on standard error.
+
+Judged are the answers of the system, and not the program: a mistake of it that is the same in both runs
+is agreement.
 
 Told is how both ended, and where they part: the first call whose answer differs and has no reason, else
 the first that differs, after some lines before it and with its reason. The reasons are those of
@@ -31,27 +36,37 @@ order of its own calls. A program that is started by system, popen or posix_spaw
 fdref, and is not compared, which is told. Where a difference with a reason leaves system and fdref apart,
 answers that differ later may follow from it, where they have to do with a descriptor, a file or a name that
 it can have reached: they are counted, and the first is told. Where with fdref all processes wait for two
-seconds, one of them in a write that would go into a pipe of 65,536 bytes, or in a call that a signal would
-end, which is told at once, they are killed; a parent may wait for a child meanwhile. At last fdref audits the
-trace of its server.
+seconds, one of them in a write that would go into a pipe of 65,536 bytes, in a call that a signal would end,
+or in one that keeps other threads from theirs, or after a child that a signal ended and that fdref kept for
+longer than its parent knew of, they are killed, which is told at once but of the write; a parent may wait for
+a child meanwhile. At last fdref audits the trace of its server.
 
 Where processes or threads act at once, their answers depend on who is first. So where one differs an order of
 the system's own calls is searched for, in which the model of fdref gives all its answers: each process or
 thread keeps its order, a fork is before the first call of its child, and a call that came back before another
-one began is before it. It is run through fdref then. If there is one, the two agree as far as that goes; if
-there is none, they do not. After 20 seconds or 100,000 states the search is given up, and it decides nothing
+one began is before it. It is run through fdref then. If there is one, the two agree as far as that goes,
+which is agreement where standard output, standard error and status are the same too; if there is none, they do
+not. After 20 seconds or 100,000 states the search is given up, and it decides nothing
 where what has no line may be why it found none: that is told. Then a read of a pipe may have the reason that
 it depends on who comes first, and other answers that differ without a reason are not judged.
 
 The processes of a program may come in another order in the next run, and where its answers depend on
 that, so may what is told of it.
 
-The last line says what the exit status means, which is 0 where both ended by themselves, with the same
-status, standard output and standard error, each answer that differs has a reason, may follow from one that
-has, or comes by another order, and the audit finds the trace legal, whatever went past fdref; 1 where one of
-these is not so; 2 for wrong words; 3 where the program could not be run or compared, ended with neither, or
-crashed with both, as by a bad address, or where a child did so with fdref for which it waited, and where it
-was not decided whether an order explains what differs.
+The last line says what the exit status means:
+
+0  both ended by themselves, with the same status, standard output and standard error, each answer that
+   differs has a reason, may follow from one that has, or comes by another order, and the audit finds the
+   trace legal, whatever went past fdref
+1  an answer differs, and none of these may be why: a reason, an order that was not decided on, a call past
+   fdref, a thread that waits and holds its process, a child that a signal ended, a bad address, modes, owners
+   and times, and the number of a process, an address or the time, where calls differ only in what they ask.
+   Or no order gives the answers; or the audit finds a fault
+2  wrong words
+3  not judged: one of these may be why an answer differs, or the two end otherwise or write something else
+   though no answer differs without a reason; the last line names it (`perhaps by ..`). Or the program could
+   not be run or compared, ended with neither, or crashed with both, as by a bad address, or a child did so
+   with fdref for which it waited; or a call was made while another one of its process waits
 """
 
 import argparse
