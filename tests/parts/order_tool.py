@@ -133,7 +133,7 @@ UNCHOSEN = [
     (APPENDED, "8 9 p0 fstat 0 = regular 2 1", "regular 1 1", f"reason: {APPEND}"),
     (APPENDED, "8 9 p0 pread 0 0 9 = x6163", "x62", f"{AT_ONCE} pread"),
     # a reason of an earlier call excuses none of a later one
-    (f"{PIPED}4 5 p0 fstat 0 = pipe 0 1\n", "6 7 p0 dup 0 = 3", "2", "page of dup: a pipe or FIFO"),
+    (f"{PIPED}4 5 p0 fstat 0 = pipe 0 1\n", "6 7 p0 getfl 0 = 2", "1", "page of fcntl: a pipe or FIFO"),
     (
         ROOMY,
         "90 95 p0 read 0 9 = x",
@@ -146,7 +146,7 @@ FORKED = f"{FILED}4 5 p0 fork = 1\n6 7 p1 attach = ok\n"
 OVERLAPPING = [
     (FORKED, "10 20 p0 read 0 70000 = x\n15 18 p1 fstat 0 = regular 0 1", f"perhaps: {COUNT}"),
     (FORKED, "10 20 p0 read 0 9 = x61\n15 18 p1 open a r,trunc = 1", f"perhaps: {FLAGS}"),
-    (FORKED, "10 12 p0 read 0 9 = x61\n15 20 p1 open a r,trunc = 1\n18 19 p0 dup 0 = 1", f"{AT_ONCE} read"),
+    (FORKED, "10 12 p0 read 0 9 = x61\n15 20 p1 open a r,trunc = 1\n18 19 p0 fstat 0 = regular 0 1", f"{AT_ONCE} read"),
     (FORKED, "10 20 p0 read 0 9 = x61\n15 18 p1 fstat 0 = regular 0 1", f"{AT_ONCE} read"),
 ]
 
