@@ -470,7 +470,8 @@ class Verdict:
             return f"the reason above: {reason.name}" if reason else BY_ORDER
         late = [it.why() for it in self.causes if it.kind == past.SIGNAL]
         is_of_modes = past.has_looked(self.past, self.compared.records)
-        return late[0] if late else past.MODES if is_of_modes else past.NUMBERS
+        numbers = f"which process came first, {past.NUMBERS}" if self.compared.processes > 1 else past.NUMBERS
+        return late[0] if late else past.MODES if is_of_modes else numbers
 
     def counted(self) -> list[Finding]:
         """The findings that no order explains."""

@@ -648,6 +648,7 @@ def order_cases(program: str) -> Iterator[Case]:
     yield "a search that is given up", gives_up
     yield "stdio on what is no output", blames_outputs
     yield "a child that was kept", tells_kept
+    yield "who comes first where no answer differs", names_first
     yield "an answer without a cause after one that has one", first_without
     yield "what a run stands still at", stands_still
 
@@ -715,6 +716,17 @@ def tells_kept() -> None:
         verdict = judge.Verdict(both, "legal 11 rest 0")
         what, status = ("not judged", 3) if cause else ("a difference", 1)
         same((f"verdict: {what}: 1 answer differs without a reason{cause}", status), ending(verdict))
+
+
+def names_first() -> None:
+    """Where several processes write otherwise, and no answer differs, that may be by who comes first."""
+    lines = "p0 fork = 1; p1 close 7 = error EBADF"
+    trace = lines_of(f"0 p0 join = 0; 1 p0 fork = 1; 2 p1 attach = ok; 3 {lines.partition('; ')[2]}")
+    one, other = Ended(0, b"ab", b""), Ended(0, b"ba", b"")
+    system = as_bytes([f"- {line}" for line in lines_of(lines)])
+    verdict = judge.Verdict(judge.Both(one, other, system, as_bytes(logged(trace)), trace_of(trace)), "legal 4 rest 0")
+    ends = "the two runs end otherwise, or write something else, perhaps by which process came first, "
+    same((f"verdict: not judged: {ends}{past.NUMBERS}", 3), ending(verdict))
 
 
 def first_without() -> None:
