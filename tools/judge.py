@@ -125,7 +125,7 @@ PAUSE = 0.005
 NOT_ASKED = 124
 LEAVES_OUT = "uses what fdref leaves out: "
 # What the shim says where a call waits that its process is not in any more, and what may be why.
-WITHIN = b"a handler of a signal makes a call while a call waits"
+WITHIN = b"a call comes while another one of the process waits, as from a handler of a signal"
 TOLD_WITHIN = (
     "a call is made while another one of the same process waits: by a handler of a signal, or after a jump out of one; "
     "the library cannot do that"

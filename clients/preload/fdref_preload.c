@@ -629,8 +629,10 @@ static int64_t dup_ours_to(struct fdref_act act, int is_cloexec)
 
 static int64_t dup_real_to(int fd, int to, int flags)
 {
-    if (fd >= NUMBERS && to >= NUMBERS)
-        return behind_dup_to(fd, to, flags);
+    if (fd >= NUMBERS && to >= NUMBERS && fd != to)
+        return system_dup3(fd, to, flags);
+    if (fd >= NUMBERS && fd == to)
+        return is_open_in_kernel(fd) ? to : fails(EBADF);
     if (to < 0 || to >= NUMBERS || !is_open_in_kernel(fd))
         return fails(EBADF);
     if (fd == to)

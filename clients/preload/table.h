@@ -43,7 +43,7 @@ static void enter(void)
     int error = errno;
     sigset_t all, before;
     if (is_held && pthread_equal(owner, pthread_self()))
-        end_with(NO_ANSWER, "a handler of a signal makes a call while a call waits");
+        end_with(NO_ANSWER, "a call comes while another one of the process waits, as from a handler of a signal");
     sigfillset(&all);
     if (how == NATIVE)
         pthread_sigmask(SIG_BLOCK, &all, &before);

@@ -157,7 +157,7 @@ def is_interrupted(program: str, library: Library) -> None:
         ended(server, 2, asked.log)
     with Server(program, 2) as server:
         asked = asking(library, server, [*command[:1], "handler that calls"])
-        told = b"fdref: a handler of a signal makes a call while a call waits\n"
+        told = b"fdref: a call comes while another one of the process waits, as from a handler of a signal\n"
         same(Ran(NO_ANSWER, b"", told), asked.ran)
         ended(server, 2, asked.log)
 
