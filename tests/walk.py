@@ -65,7 +65,7 @@ WALKS = (
         {"Call": "Write", "Act": "Call", "Request": "Call", "FileEdit": "Bytes"},
         Most(680, 118, 22),
         "pump pump_on feed push_all end_of_piece attend take_ring take_next take_call call start wake_stirred "
-        "put_recorded encode_recorded send_ready flush wait_out wait_once finish leave_all hang_up",
+        "put_recorded encode_recorded send_ready flush wait_out wait_once finish close_session hang_up",
     ),
 )
 

@@ -17,7 +17,7 @@ use Rattle.session_core.specs.Stages.{Stage, Turn}
 use Rattle.session_core.specs.declared.stage.Stage.TheVariants as stage
 use Rattle.session_core.specs.declared.stage.Over.TheVariants as over
 use Rattle.session_core.specs.declared.stage.LeaveCause.TheVariants as why
-use Rattle.session_core.specs.declared.stage.Turn.TheVariants as turn
+use Rattle.session_core.specs.declared.stage.Standing.TheVariants as standing
 use Rattle.session_core.specs.Answers.{receipts_of}
 use Rattle.session_core.specs.OutputState.{OutputState}
 use Rattle.session_core.specs.Proved.Output.{Holds, Puts, Flushes, FailsToSend}
@@ -26,7 +26,7 @@ use Rattle.session_core.specs.Served.{IsGranted}
 use Rattle.session_core.specs.Proved.Turns.{goes_on, IsTalking, HasReceipts, IsWaitingAt, OverBy, TakesUp}
 use Rattle.session_core.proofs.WaitLemmas.{granted_more, talk_more, receipts_recorded, receipts_refused, cut_now, cut_converses, talked_converses}
 
-pub refused : (seat after : SeatState) (call : Call) (refusal : Refusal) (old new : OutputState) → after ≡ seat → Puts old new (told.Refused refusal) → TakesUp (stage.Ready seat) (request.Call call) old new (turn.GoesOn (stage.Ready after))
+pub refused : (seat after : SeatState) (call : Call) (refusal : Refusal) (old new : OutputState) → after ≡ seat → Puts old new (told.Refused refusal) → TakesUp (stage.Ready seat) (request.Call call) old new (standing.Ready (stage.Ready after))
 refused seat after call refusal old new same put base handled holds talking = (
   put.holds base holds,
   (
@@ -47,7 +47,7 @@ is_reply (outcome.Parked moved) h e = absurd cc
 is_reply (outcome.Part moved) h e = absurd h
 
 pub replied : (seat after : SeatState) (call : Call) (receipt : Receipted) (old new : OutputState) → Adds seat after (act.Call call) receipt → EndsOrWaits receipt.record_is.outcome → goes_on receipt.record_is.outcome ≡ false
-    → Puts old new (told.Recorded receipt) → TakesUp (stage.Ready seat) (request.Call call) old new (turn.GoesOn (stage.Ready after))
+    → Puts old new (told.Recorded receipt) → TakesUp (stage.Ready seat) (request.Call call) old new (standing.Ready (stage.Ready after))
 replied seat after call receipt old new adds kind ends put base handled holds talking = (
   put.holds base holds,
   (
@@ -103,7 +103,7 @@ with_called false handled old call receipt e kind act_is h =
     (call, refl, inr (inl (record { receipt = receipt; is = refl; act_is = act_is; ends = is_reply receipt.record_is.outcome kind e }))) refl)
 
 pub untold : (seat after : SeatState) (call : Call) (receipt : Receipted) (old new : OutputState) → Adds seat after (act.Call call) receipt → EndsOrWaits receipt.record_is.outcome → new ≡ old
-    → TakesUp (stage.Ready seat) (request.Call call) old new (turn.Over (over.Untold after receipt))
+    → TakesUp (stage.Ready seat) (request.Call call) old new (standing.Over (over.Untold after receipt))
 untold seat after call receipt old new adds kind e base handled holds talking =
     subst (λ (o : OutputState). OverBy base handled (request.Call call) o (over.Untold after receipt)) (sym e) (record {
       holds = holds;
@@ -114,7 +114,7 @@ untold seat after call receipt old new adds kind e base handled holds talking =
     })
 
 -- memory ran out for the answer of a call that is refused
-pub refusal_unput : (seat after : SeatState) (call : Call) (old new : OutputState) → after ≡ seat → new ≡ old → TakesUp (stage.Ready seat) (request.Call call) old new (turn.Over (over.Leaves (stage.Ready after) why.NoMemory))
+pub refusal_unput : (seat after : SeatState) (call : Call) (old new : OutputState) → after ≡ seat → new ≡ old → TakesUp (stage.Ready seat) (request.Call call) old new (standing.Over (over.Leaves (stage.Ready after) why.NoMemory))
 refusal_unput seat after call old new same e base handled holds talking =
     subst (λ (o : OutputState). OverBy base handled (request.Call call) o (over.Leaves (stage.Ready after) why.NoMemory)) (sym e) (
       holds,
@@ -123,7 +123,7 @@ refusal_unput seat after call old new same e base handled holds talking =
     )
 
 -- the writer fails before a request is taken up
-pub unflushed : (at : Stage) (next : Request) (old new : OutputState) → FailsToSend old new → TakesUp at next old new (turn.Over (over.Unwritten at))
+pub unflushed : (at : Stage) (next : Request) (old new : OutputState) → FailsToSend old new → TakesUp at next old new (standing.Over (over.Unwritten at))
 unflushed at next old new h base handled holds talking = (
   h.breaks base holds,
   subst (HasReceipts at) (sym h.answers) (has_receipts handled old.answers at talking),

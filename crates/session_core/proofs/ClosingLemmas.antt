@@ -668,7 +668,3 @@ foreign_here o spent Given Ends admits base (inr k) = absurd k
 
 pub foreign : (o : OutputState) (spent : SeatState) → LeavesAll o o (over.Foreign spent) (record { seat = Ok spent; end = end.Foreign; last = None })
 foreign o spent = both o o (over.Foreign spent) (record { seat = Ok spent; end = end.Foreign; last = None }) (foreign_here o spent) (λ base input source pushes k unfailed met. absurd k)
-
--- the same way to be over, and the same session that is left
-pub left_as : (old new : OutputState) (found same : Over) (left other : LeftSession) → found ≡ same → left ≡ other → LeavesAll old new same other → LeavesAll old new found left
-left_as old new found same left other e k h = subst (λ (x : Over). LeavesAll old new x left) (sym e) (subst (λ (x : LeftSession). LeavesAll old new same x) (sym k) h)

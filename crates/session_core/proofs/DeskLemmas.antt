@@ -3,29 +3,24 @@ use Rattle.std.proofs.Common.{◌≡◌, ℕ, suc, ◌-◌, arith, inl, inr, Lis
 use Rattle.std.proofs.lemmas.List.{append-nil, append_assoc}
 use Rattle.rtrb.specs.Ring.{IsPair, SameConsumer, SameProducer}
 use Rattle.call_types.specs.declared.act.Record.{Record}
-use Rattle.call_types.specs.declared.call.Call.{Call}
-use Rattle.call_types.specs.declared.refusal.Refusal.{Refusal}
 use Rattle.call_types.specs.declared.request.Request.{Request}
 use Rattle.call_types.specs.declared.request.Request.TheVariants as request
 use Rattle.request_pump.specs.Pump.{PushingEnd}
 use Rattle.record_book.specs.Seat.{SeatState}
-use Rattle.run_history.specs.Fronts.{Since}
-use Rattle.system_lock.specs.declared.kernel.Why.TheVariants as ended_why
 use Rattle.session_core.specs.declared.told.Told.{Told}
 use Rattle.session_core.specs.Stages.{Stage, Standing, Over, Turn, LeftSession}
 use Rattle.session_core.specs.declared.stage.LeaveCause.{LeaveCause}
 use Rattle.session_core.specs.declared.stage.LeaveCause.TheVariants as why
 use Rattle.session_core.specs.declared.stage.Over.TheVariants as over
 use Rattle.session_core.specs.declared.stage.Stage.TheVariants as stage
-use Rattle.session_core.specs.declared.stage.Turn.TheVariants as turn
+use Rattle.session_core.specs.declared.stage.Standing.TheVariants as standing
 use Rattle.session_core.specs.OutputState.{OutputState}
 use Rattle.session_core.specs.Proved.Output.{FailsToSend, SendsAll, fresh_output}
-use Rattle.session_core.specs.Proved.Turns.{IsGivenUp, IsTalking, HasReceipts, TakesUp, TurnBy, WaitsOnce, TurnSays, WaitSays}
+use Rattle.session_core.specs.Proved.Turns.{IsTalking, HasReceipts, TakesUp, TurnBy, WaitsOnce, TurnSays, WaitSays}
 use Rattle.session_core.specs.Talk.{Converses}
 use Rattle.session_core.specs.Refusals.{AreSaid, RefusalSaid}
-use Rattle.session_core.specs.Said.{SaidEnded}
-use Rattle.session_core.specs.Proved.Saying.{IsReadingEnd, OverSaid}
-use Rattle.session_core.specs.Proved.Desk.{HasLeft, IsEnding, IsLostIn, IsNamedPair, IsOverAfter, IsReady, IsRingOf, IsWaitingIn, LeftBy, SendsOn, StandsThere, TurnStands}
+use Rattle.session_core.specs.Proved.Saying.{IsReadingEnd, OverSaid, TurnSaid}
+use Rattle.session_core.specs.Proved.Desk.{HasLeft, IsAtRest, IsEnding, IsLostIn, IsNamedPair, IsOverAfter, IsReady, IsRingOf, IsShut, IsWaitingIn, LeftBy, SentIfReady, StandsThere, TurnStands, TurnsTo}
 use Rattle.session_core.specs.Answering.{TakingEnd}
 use Rattle.session_core.proofs.CallLemmas.{converses, has_receipts}
 use Rattle.session_core.proofs.OutputLemmas.{holds_fresh}
@@ -54,53 +49,44 @@ same_on a b c h k = ((k.0.0 ∙ h.0.0, k.0.1 ∙ h.0.1, k.0.2 ∙ h.0.2, k.0.3 �
 
 -- ---- one turn
 
+-- what came of the last of these requests
+turned : (says : Says) (base : Option (List ℕ)) (handled : List Request) (next : Request) (o : OutputState) (found : Turn)
+    → TurnBy base handled next o found → AreSaid (RefusalSaid says (handled ++ next ∷ [])) o.answers → TurnSaid says found
+    → TurnStands says base (handled ++ next ∷ []) o found
+turned says base handled next o (standing.Ready at) by refusals said = record { holds = by.0; talking = by.1; said = refusals }
+turned says base handled next o (standing.Waits seat) by refusals said =
+    record { handled = handled; call = by.0; taken_are = ap (λ (r : Request). handled ++ r ∷ []) by.1; waits = by.2; said = refusals }
+turned says base handled next o (standing.Lost seat) by refusals said = record { is = by; said = refusals; end_said = said }
+turned says base handled next o (standing.Over found) by refusals said =
+    record { is = inl (record { handled = handled; next = next; taken_are = refl; is = by }); said = refusals; over_said = said }
+
 -- a request more was taken up
-pub one_taken : (Said : List Request → List Told → Refusal → Type 0) (base : Option (List ℕ)) (taken more : List Request) (next : Request) (at : Stage) (old new : OutputState) (found : Turn) → more ≡ taken ++ next ∷ [] → IsReady Said base taken old at
-    → TakesUp at next old new found → TurnSays Said at (next ∷ []) old new → TurnStands Said base more new found
-one_taken Said base taken more next at old new (turn.GoesOn then) e ready takes says =
-    let by = takes base taken ready.holds ready.talking in
-    subst (λ (l : List Request). IsReady Said base l new then) (sym e) (record { holds = by.0; talking = by.1; said = says base taken ready.holds ready.talking ready.said })
-one_taken Said base taken more next at old new (turn.Waits seat) e ready takes says =
-    let by = takes base taken ready.holds ready.talking in
-    subst (λ (l : List Request). IsWaitingIn Said base l new seat) (sym e) (record {
-      handled = taken;
-      call = by.0;
-      taken_are = ap (λ (r : Request). taken ++ r ∷ []) by.1;
-      waits = by.2;
-      said = says base taken ready.holds ready.talking ready.said;
-    })
-one_taken Said base taken more next at old new (turn.Lost seat) e ready takes says =
-    subst (λ (l : List Request). IsLostIn Said base l new seat) (sym e)
-    (record { is = takes base taken ready.holds ready.talking; said = says base taken ready.holds ready.talking ready.said })
-one_taken Said base taken more next at old new (turn.Over found) e ready takes says =
-    let by = takes base taken ready.holds ready.talking in
-    subst (λ (l : List Request). IsOverAfter Said base l new found) (sym e)
-    (record { is = inl (record { handled = taken; next = next; taken_are = refl; is = by }); said = says base taken ready.holds ready.talking ready.said })
+pub one_taken : (says : Says) (base : Option (List ℕ)) (taken : List Request) (next : Request) (at : Stage) (old new : OutputState) (found : Turn)
+    → IsReady says base taken old at → TakesUp at next old new found → TurnSays (RefusalSaid says) at (next ∷ []) old new → TurnSaid says found
+    → TurnStands says base (taken ++ next ∷ []) new found
+one_taken says base taken next at old new found ready takes refusals said =
+    turned says base taken next new found (takes base taken ready.holds ready.talking) (refusals base taken ready.holds ready.talking ready.said) said
 
 -- a call that waited has gone on, or has ended
-waited_by : (Said : List Request → List Told → Refusal → Type 0) (base : Option (List ℕ)) (taken handled : List Request) (call : Call) (new : OutputState) (found : Turn) → taken ≡ handled ++ request.Call call ∷ [] → AreSaid (Said taken) new.answers
-    → TurnBy base handled (request.Call call) new found → TurnStands Said base taken new found
-waited_by Said base taken handled call new (turn.GoesOn at) e said by = record { holds = by.0; talking = subst (λ (l : List Request). IsTalking l new.answers at) (sym e) by.1; said = said }
-waited_by Said base taken handled call new (turn.Waits seat) e said by = record { handled = handled; call = by.0; taken_are = e ∙ ap (λ (r : Request). handled ++ r ∷ []) by.1; waits = by.2; said = said }
-waited_by Said base taken handled call new (turn.Lost seat) e said by = record { is = subst (λ (l : List Request). IsGivenUp base l new seat) (sym e) by; said = said }
-waited_by Said base taken handled call new (turn.Over found) e said by = record { is = inl (record { handled = handled; next = request.Call call; taken_are = e; is = by }); said = said }
-
-pub waited : (Said : List Request → List Told → Refusal → Type 0) (base : Option (List ℕ)) (taken : List Request) (seat : SeatState) (old new : OutputState) (found : Turn) → IsWaitingIn Said base taken old seat → WaitsOnce seat old new found
-    → WaitSays Said seat old new → TurnStands Said base taken new found
-waited Said base taken seat old new found w waits says =
-    let said = says base w.handled w.call w.waits (subst (λ (l : List Request). AreSaid (Said l) old.answers) w.taken_are w.said) in
-    waited_by Said base taken w.handled w.call new found w.taken_are (subst (λ (l : List Request). AreSaid (Said l) new.answers) (sym w.taken_are) said) (waits base w.handled w.call w.waits)
+pub waited : (says : Says) (base : Option (List ℕ)) (taken : List Request) (seat : SeatState) (old new : OutputState) (found : Turn)
+    → IsWaitingIn says base taken old seat → WaitsOnce seat old new found → WaitSays (RefusalSaid says) seat old new → TurnSaid says found
+    → TurnStands says base taken new found
+waited says base taken seat old new found w waits refusals said =
+    let first = subst (λ (l : List Request). AreSaid (RefusalSaid says l) old.answers) w.taken_are w.said in
+    subst (λ (l : List Request). TurnStands says base l new found) (sym w.taken_are)
+    (turned says base w.handled (request.Call w.call) new found (waits base w.handled w.call w.waits) (refusals base w.handled w.call w.waits first) said)
 
 -- all answers are written
-pub sent_all : (says : Says) (old new : OutputState) (at : Stage) → SendsAll old new → SendsOn says old at new (turn.GoesOn at)
-sent_all says old new at sends base taken ready = record {
+pub sent_all : (says : Says) (taken : List Request) (old new : OutputState) (at : Stage) → SendsAll old new → TurnsTo says taken old at taken new (standing.Ready at)
+sent_all says taken old new at sends base ready = record {
   holds = sends.flushes.holds base ready.holds;
   talking = subst (λ (l : List Told). IsTalking taken l at) (sym sends.flushes.answers) ready.talking;
   said = kept_said (RefusalSaid says taken) old.answers new.answers sends.flushes.answers ready.said;
 }
 
-pub not_sent : (says : Says) (old new : OutputState) (at : Stage) → FailsToSend old new → SendsOn says old at new (turn.Over (over.Unwritten at))
-not_sent says old new at fails base taken ready = record {
+pub not_sent : (says : Says) (taken : List Request) (old new : OutputState) (at : Stage) → FailsToSend old new
+    → TurnsTo says taken old at taken new (standing.Over (over.Unwritten at))
+not_sent says taken old new at fails base ready = record {
   is =
       inr (
         fails.breaks base ready.holds,
@@ -108,21 +94,31 @@ not_sent says old new at fails base taken ready = record {
         subst (Converses taken) (sym fails.answers) (converses taken old.answers at ready.talking),
       );
   said = kept_said (RefusalSaid says taken) old.answers new.answers fails.answers ready.said;
+  over_said = tt;
 }
 
 -- ---- where a session stands
 
-pub has_left : (says : Says) (base : Option (List ℕ)) (taken : List Request) (old new : OutputState) (found : Over) (left : LeftSession)
-    → IsOverAfter (RefusalSaid says) base taken old found → OverSaid says found
-    → ((requests : List Request) → AreSaid (RefusalSaid says requests) old.answers → OverSaid says found → LeftBy says requests old found new left) → HasLeft says base taken new left
-has_left says base taken old new found left is said leaves = record { old = old; found = found; ends = is.is; left_by = leaves taken is.said said }
+pub has_left : (says : Says) (was_shut : IsShut) (base : Option (List ℕ)) (taken : List Request) (old new : OutputState) (found : Over) (left : LeftSession)
+    → IsOverAfter says base taken old found → (OverSaid says found → LeftBy says old found new left) → was_shut new.sink.contents → HasLeft says was_shut base taken new left
+has_left says was_shut base taken old new found left is leaves shut =
+    record { old = old; found = found; over = is; left_by = leaves is.over_said; shut = shut }
+
+-- where no call waits, and all answers are written if a request may be taken up
+pub at_rest : (o : OutputState) (at : Standing) → ((seat : SeatState) → at ≡ standing.Waits seat → ⊥) → SentIfReady o at → IsAtRest o at
+at_rest o (standing.Ready at) waits sent = sent
+at_rest o (standing.Waits seat) waits sent = absurd (waits seat refl)
+at_rest o (standing.Lost seat) waits sent = tt
+at_rest o (standing.Over left) waits sent = tt
 
 -- a session at which nothing was taken up
-pub fresh_stands : (Said : List Request → List Told → Refusal → Type 0) (base : Option (List ℕ)) (taken : List Request) (o : OutputState) (admission : Unit {0}) → taken ≡ [] → o ≡ fresh_output base → IsReady Said base taken o (stage.Opening admission)
-fresh_stands Said base taken o admission none e =
+pub fresh_stands : (says : Says) (base : Option (List ℕ)) (taken : List Request) (o : OutputState) (admission : Unit {0})
+    → taken ≡ [] → o ≡ fresh_output base → IsReady says base taken o (stage.Opening admission)
+fresh_stands says base taken o admission none e =
     let at : Stage = stage.Opening admission in
-    let fresh : IsReady Said base [] (fresh_output base) at = record { holds = holds_fresh base; talking = (refl, refl); said = empty_said (Said []) [] refl } in
-    subst (λ (l : List Request). IsReady Said base l o at) (sym none) (subst (λ (x : OutputState). IsReady Said base [] x at) (sym e) fresh)
+    let fresh : IsReady says base [] (fresh_output base) at =
+    record { holds = holds_fresh base; talking = (refl, refl); said = empty_said (RefusalSaid says []) [] refl } in
+    subst (λ (l : List Request). IsReady says base l o at) (sym none) (subst (λ (x : OutputState). IsReady says base [] x at) (sym e) fresh)
 
 -- ---- how it ends
 
@@ -138,7 +134,7 @@ none_left [] e = refl
 none_left (one ∷ more) e = absurd cc
 
 -- no kernel said so
-pub reading_said : (says : Says) (at : Stage) (cause : LeaveCause) → IsReadingEnd cause → OverSaid says (over.Leaves at cause)
+reading_said : (says : Says) (at : Stage) (cause : LeaveCause) → IsReadingEnd cause → OverSaid says (over.Leaves at cause)
 reading_said says at why.Closed h = tt
 reading_said says at why.ReadFault h = tt
 reading_said says at why.Malformed h = tt
@@ -148,55 +144,43 @@ reading_said says at why.Ahead h = tt
 
 -- all are answered
 pub ends_after_all : (says : Says) (base : Option (List ℕ)) (taken rest sent : List Request) (cause : LeaveCause) (at : Stage) (old new : OutputState) (left : LeftSession)
-    → taken ++ rest ≡ sent → length rest ≡ 0 → IsReady (RefusalSaid says) base taken old at
-    → ((requests : List Request) → AreSaid (RefusalSaid says requests) old.answers → OverSaid says (over.Leaves at cause) → LeftBy says requests old (over.Leaves at cause) new left)
-    → OverSaid says (over.Leaves at cause) → IsEnding says base sent cause new left
-ends_after_all says base taken rest sent cause at old new left e none ready leaves over_said =
+    → taken ++ rest ≡ sent → length rest ≡ 0 → IsReady says base taken old at → IsReadingEnd cause
+    → (OverSaid says (over.Leaves at cause) → LeftBy says old (over.Leaves at cause) new left) → IsEnding says base sent cause new left
+ends_after_all says base taken rest sent cause at old new left e none ready reading leaves =
     let all : taken ≡ sent = sym (append-nil taken) ∙ ap (λ (l : List Request). taken ++ l) (sym (none_left rest none)) ∙ e in
-    let said = subst (λ (l : List Request). AreSaid (RefusalSaid says l) old.answers) all ready.said in
     record {
       old = old;
       found = over.Leaves at cause;
       ends = inr (inl (record { at = at; is = refl; holds = ready.holds; talking = subst (λ (l : List Request). IsTalking l old.answers at) all ready.talking }));
-      left_by = leaves sent said over_said;
+      said = subst (λ (l : List Request). AreSaid (RefusalSaid says l) old.answers) all ready.said;
+      left_by = leaves (reading_said says at cause reading);
     }
 
 -- the last that was taken is given up
 pub ends_given_up : (says : Says) (base : Option (List ℕ)) (taken rest sent : List Request) (cause : LeaveCause) (seat : SeatState) (old new : OutputState) (left : LeftSession)
-    → taken ++ rest ≡ sent → IsReadingEnd cause → IsLostIn (RefusalSaid says) base taken old seat × SaidEnded says.ended seat ended_why.Lost
-    → ((requests : List Request) → AreSaid (RefusalSaid says requests) old.answers → OverSaid says (over.Lost seat cause) → LeftBy says requests old (over.Lost seat cause) new left)
-    → IsEnding says base sent cause new left
-ends_given_up says base taken rest sent cause seat old new left e reading lost leaves = record {
+    → taken ++ rest ≡ sent → IsLostIn says base taken old seat → IsReadingEnd cause
+    → (OverSaid says (over.Lost seat cause) → LeftBy says old (over.Lost seat cause) new left) → IsEnding says base sent cause new left
+ends_given_up says base taken rest sent cause seat old new left e lost reading leaves = record {
   old = old;
   found = over.Lost seat cause;
-  ends = inr (inr (record { taken = taken; later = rest; seat = seat; sent_are = sym e; found_is = refl; is = lost.0.is }));
-  left_by =
-      leaves sent (subst (λ (l : List Request). AreSaid (RefusalSaid says l) old.answers) e (wider says taken rest old.answers lost.0.said)) (lost.1, reading);
+  ends = inr (inr (record { taken = taken; later = rest; seat = seat; sent_are = sym e; found_is = refl; is = lost.is }));
+  said = subst (λ (l : List Request). AreSaid (RefusalSaid says l) old.answers) e (wider says taken rest old.answers lost.said);
+  left_by = leaves (lost.end_said, reading);
 }
 
 -- it was left before
-pub ends_early : (says : Says) (base : Option (List ℕ)) (taken rest sent : List Request) (cause : LeaveCause) (o : OutputState) (left : LeftSession)
-    → taken ++ rest ≡ sent → HasLeft says base taken o left → IsEnding says base sent cause o left
-ends_early says base taken rest sent cause o left e h =
-    let by = h.left_by in
-    record {
-      old = h.old;
-      found = h.found;
-      ends = inl (record { taken = taken; later = rest; sent_are = sym e; is = h.ends });
-      left_by = record {
-        leaves = by.leaves;
-        keeps = by.keeps;
-        closes = by.closes;
-        over_said = by.over_said;
-        end_said = by.end_said;
-        answers = by.answers;
-        said =
-            subst (λ (l : List Request). AreSaid (RefusalSaid says l) h.old.answers) e (wider says taken rest h.old.answers by.said);
-      };
-    }
+pub ends_early : (says : Says) (was_shut : IsShut) (base : Option (List ℕ)) (taken rest sent : List Request) (cause : LeaveCause) (o : OutputState) (left : LeftSession)
+    → taken ++ rest ≡ sent → HasLeft says was_shut base taken o left → IsEnding says base sent cause o left
+ends_early says was_shut base taken rest sent cause o left e h = record {
+  old = h.old;
+  found = h.found;
+  ends = inl (record { taken = taken; later = rest; sent_are = sym e; is = h.over.is });
+  said = subst (λ (l : List Request). AreSaid (RefusalSaid says l) h.old.answers) e (wider says taken rest h.old.answers h.over.said);
+  left_by = h.left_by;
+}
 
--- a desk has where its session stands, whatever the history comes to
-pub there : (says : List Record → Says) (front : List Record) (base : Option (List ℕ)) (taken : List Request) (o : OutputState) (place : Option Standing)
-    → Since front (λ h. StandsThere (says h) base taken o place) → place ≡ None → ⊥
-there says front base taken o None stands is = stands front ([], append-nil front)
-there says front base taken o (Some standing) stands is = absurd cc
+-- a desk has where its session stands
+pub there : (front : List Record) (says : List Record → Says) (was_shut : IsShut) (base : Option (List ℕ)) (taken : List Request) (o : OutputState) (place : Option Standing)
+    → StandsThere front says was_shut base taken o place → place ≡ None → ⊥
+there front says was_shut base taken o None stands is = stands
+there front says was_shut base taken o (Some standing) stands is = absurd cc

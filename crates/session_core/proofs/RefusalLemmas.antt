@@ -19,7 +19,7 @@ use Rattle.session_core.specs.Stages.{Stage, Turn}
 use Rattle.session_core.specs.declared.stage.Stage.TheVariants as stage
 use Rattle.session_core.specs.declared.stage.LeaveCause.{LeaveCause}
 use Rattle.session_core.specs.declared.stage.Over.TheVariants as over
-use Rattle.session_core.specs.declared.stage.Turn.TheVariants as turn
+use Rattle.session_core.specs.declared.stage.Standing.TheVariants as standing
 use Rattle.session_core.specs.Proved.Turns.{IsTalking, IsWaitingAt, PutsFirst, PutsGivenUp, TellsWhy, TurnSays}
 use Rattle.session_core.specs.Refusals.{AreSaid, EndTold, NextRefused, OpeningRefused, RefusalSaid}
 use Rattle.session_core.proofs.ListLemmas.{same_head, same_tail}
@@ -135,10 +135,10 @@ end_put says base handled call seat spent old new so found put said w are =
 pub ended_refused : (says : Says) (base : Option (List ℕ)) (handled : List Request)
     (call : Call) (seat spent : SeatState) (reason : Why) (old new : OutputState) (found : Turn) → TellsWhy spent reason old new found → EndsBy seat spent reason → says.ended seat spent reason
     → IsWaitingAt base handled call seat old → AreSaid (RefusalSaid says (handled ++ request.Call call ∷ [])) old.answers → AreSaid (RefusalSaid says (handled ++ request.Call call ∷ [])) new.answers
-ended_refused says base handled call seat spent ended_why.NoMemory old new (turn.Over (over.Ended held why)) tells ends said w are = end_put says base handled call seat spent old new refusal.NoMemory why tells.0 (ends, said) w are
-ended_refused says base handled call seat spent ended_why.RunFull old new (turn.Over (over.Ended held why)) tells ends said w are = end_put says base handled call seat spent old new refusal.RunFull why tells.0 (ends, said) w are
-ended_refused says base handled call seat spent ended_why.Lost old new (turn.Lost held) tells ends said w are = same_said (RefusalSaid says (handled ++ request.Call call ∷ [])) old new tells.0 are
-ended_refused says base handled call seat spent ended_why.Foreign old new (turn.Over (over.Foreign held)) tells ends said w are = same_said (RefusalSaid says (handled ++ request.Call call ∷ [])) old new tells.0 are
+ended_refused says base handled call seat spent ended_why.NoMemory old new (standing.Over (over.Ended held why)) tells ends said w are = end_put says base handled call seat spent old new refusal.NoMemory why tells.0 (ends, said) w are
+ended_refused says base handled call seat spent ended_why.RunFull old new (standing.Over (over.Ended held why)) tells ends said w are = end_put says base handled call seat spent old new refusal.RunFull why tells.0 (ends, said) w are
+ended_refused says base handled call seat spent ended_why.Lost old new (standing.Lost held) tells ends said w are = same_said (RefusalSaid says (handled ++ request.Call call ∷ [])) old new tells.0 are
+ended_refused says base handled call seat spent ended_why.Foreign old new (standing.Over (over.Foreign held)) tells ends said w are = same_said (RefusalSaid says (handled ++ request.Call call ∷ [])) old new tells.0 are
 ended_refused says base handled call seat spent reason old new found tells ends said w are = absurd tells
 
 -- ---- requests

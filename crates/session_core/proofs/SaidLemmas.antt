@@ -12,7 +12,7 @@ use Rattle.session_core.specs.Proved.Closing.{HangsUpSeat, KeepsSeat, LeavesWith
 use Rattle.session_core.specs.declared.stage.Stage.TheVariants as stage
 use Rattle.session_core.specs.Stages.{LeftSession, Over, Stage, Turn}
 use Rattle.session_core.specs.declared.stage.Over.TheVariants as over
-use Rattle.session_core.specs.declared.stage.Turn.TheVariants as turn
+use Rattle.session_core.specs.declared.stage.Standing.TheVariants as standing
 use Rattle.session_core.specs.declared.stage.LeaveCause.{LeaveCause}
 use Rattle.session_core.specs.declared.stage.LeaveCause.TheVariants as why
 use Rattle.session_core.specs.OutputState.{OutputState}
@@ -46,10 +46,10 @@ same_spent : (ended : SeatState → SeatState → Why → Type 0) (seat spent : 
 same_spent ended seat spent reason e said = subst (λ (s : SeatState). SaidEnded ended s reason) (sym e) said
 
 pub given_up_said : (says : Says) (spent : SeatState) (reason : Why) (old new : OutputState) (found : Turn) → TellsWhy spent reason old new found → SaidEnded says.ended spent reason → TurnSaid says found
-given_up_said says spent ended_why.NoMemory old new (turn.Over (over.Ended seat why)) tells said = wanting_said says.ended seat old new why tells.0 (same_spent says.ended seat spent ended_why.NoMemory tells.1 said)
-given_up_said says spent ended_why.RunFull old new (turn.Over (over.Ended seat why)) tells said = full_said says.ended seat old new why tells.0 (same_spent says.ended seat spent ended_why.RunFull tells.1 said)
-given_up_said says spent ended_why.Lost old new (turn.Lost seat) tells said = same_spent says.ended seat spent ended_why.Lost tells.1 said
-given_up_said says spent ended_why.Foreign old new (turn.Over (over.Foreign seat)) tells said = same_spent says.ended seat spent ended_why.Foreign tells.1 said
+given_up_said says spent ended_why.NoMemory old new (standing.Over (over.Ended seat why)) tells said = wanting_said says.ended seat old new why tells.0 (same_spent says.ended seat spent ended_why.NoMemory tells.1 said)
+given_up_said says spent ended_why.RunFull old new (standing.Over (over.Ended seat why)) tells said = full_said says.ended seat old new why tells.0 (same_spent says.ended seat spent ended_why.RunFull tells.1 said)
+given_up_said says spent ended_why.Lost old new (standing.Lost seat) tells said = same_spent says.ended seat spent ended_why.Lost tells.1 said
+given_up_said says spent ended_why.Foreign old new (standing.Over (over.Foreign seat)) tells said = same_spent says.ended seat spent ended_why.Foreign tells.1 said
 given_up_said says spent reason old new found tells said = absurd tells
 
 -- the end that is told once the last answers are written

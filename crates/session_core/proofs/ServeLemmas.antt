@@ -30,7 +30,7 @@ use Rattle.session_core.specs.Proved.Turns.{IsGivenUp, IsTalking, OverBy}
 use Rattle.session_core.specs.Proved.Ends.{IsCutOff, IsMet, IsOver, IsOverHere}
 use Rattle.session_core.specs.Proved.Closing.{ClosesAs, with_last}
 use Rattle.session_core.specs.Proved.Desk.{EndsAs, LeavesUnwritten, OverOf}
-use Rattle.session_core.specs.Proved.Settling.{Settles, unserved_by, why_of}
+use Rattle.session_core.specs.Proved.Together.{IsPutTogether, unserved_by, why_of}
 use Rattle.session_core.specs.Said.{CutSaid, EndSaid}
 use Rattle.session_core.specs.Refusals.{BeginsSaid, RefusalSaid, ServesUnder}
 use Rattle.session_core.specs.Served.{ComesTo, HasRead, KeepsReader, Serves, SessionState, failures_after, reads_of}
@@ -293,63 +293,63 @@ no_failure found old answers end.NoThread failures h = absurd h
 no_failure found old answers other failures h = refl
 
 pub started : (says : Says) (always : Bool) (base : Option (List ℕ)) (p : PumpState) (s : SessionState) (failures : ℕ)
-    → Settles says always base p s → failures_after s.end_is failures ≡ failures
-started says always base p s failures settles =
-    let ending = settles.ending in
-    subst (λ (x : SessionState). failures_after x.end_is failures ≡ failures) settles.is
-    (no_failure ending.found ending.old (with_last settles.o.answers settles.left.last) settles.left.end failures ending.left_by.closes)
+    → IsPutTogether says always base p s → failures_after s.end_is failures ≡ failures
+started says always base p s failures together =
+    let ending = together.ending in
+    subst (λ (x : SessionState). failures_after x.end_is failures ≡ failures) together.is
+    (no_failure ending.found ending.old (with_last together.o.answers together.left.last) together.left.end failures ending.left_by.closes)
 
 -- what it comes to
 has_served : (says : Says) (always : Bool) (from base : Option (List ℕ)) (ring : PushingEnd) (p : PumpState) (s : SessionState)
-    → IsFreshRing ring → Pumps from ring p → Settles says always base p s → Serves always from base s
-has_served says always from base ring p s fresh h settles =
-    let ending = settles.ending in
+    → IsFreshRing ring → Pumps from ring p → IsPutTogether says always base p s → Serves always from base s
+has_served says always from base ring p s fresh h together =
+    let ending = together.ending in
     let at = is_over (producer_capacity ring) base h.input p ending.old ending.found fresh.room (pushed_from from ring p fresh h) h.met h.given_back ending.ends in
-    let comes : ComesTo h.input base s = subst (ComesTo h.input base) settles.is (ending.left_by.leaves.read base h.input p.reader p.pushes at.0 at.1) in
+    let comes : ComesTo h.input base s = subst (ComesTo h.input base) together.is (ending.left_by.leaves.read base h.input p.reader p.pushes at.0 at.1) in
     record {
       input = h.input;
-      consumes = subst (λ (x : SessionState). HasRead from x.reader h.input) settles.is h.consumes;
+      consumes = subst (λ (x : SessionState). HasRead from x.reader h.input) together.is h.consumes;
       kept =
-          subst (λ (x : SessionState). KeepsReader x.reader x.end_is) settles.is
-          (has_thread p.reader ending.found ending.old (with_last settles.o.answers settles.left.last) settles.left.end ending.left_by.closes);
-      few_reads = subst (λ (x : SessionState). (reads_of x.reader).calls ≤ READS_MAX) settles.is h.few_reads;
-      few_interrupted = (subst (λ (x : SessionState). (reads_of x.reader).interruptions ≤ INTERRUPTIONS_MAX) settles.is h.few_interrupted, settles.few);
-      let_through = settles.let_through;
+          subst (λ (x : SessionState). KeepsReader x.reader x.end_is) together.is
+          (has_thread p.reader ending.found ending.old (with_last together.o.answers together.left.last) together.left.end ending.left_by.closes);
+      few_reads = subst (λ (x : SessionState). (reads_of x.reader).calls ≤ READS_MAX) together.is h.few_reads;
+      few_interrupted = (subst (λ (x : SessionState). (reads_of x.reader).interruptions ≤ INTERRUPTIONS_MAX) together.is h.few_interrupted, together.few);
+      let_through = together.let_through;
       comes = comes;
     }
 
-pub end_said : (says : Says) (always : Bool) (base : Option (List ℕ)) (p : PumpState) (s : SessionState) → Settles says always base p s
+pub end_said : (says : Says) (always : Bool) (base : Option (List ℕ)) (p : PumpState) (s : SessionState) → IsPutTogether says always base p s
     → EndSaid says s.seat s.end_is
-end_said says always base p s settles = subst (λ (x : SessionState). EndSaid says x.seat x.end_is) settles.is settles.ending.left_by.end_said
+end_said says always base p s together = subst (λ (x : SessionState). EndSaid says x.seat x.end_is) together.is together.ending.left_by.end_said
 
 pub given_up : (says : Says) (always : Bool) (from base : Option (List ℕ)) (ring : PushingEnd) (p : PumpState) (s : SessionState)
-    → IsFreshRing ring → Pumps from ring p → Settles says always base p s → CutSaid says.ended s.seat s.answers s.end_is
-given_up says always from base ring p s fresh h settles =
-    let ending = settles.ending in
+    → IsFreshRing ring → Pumps from ring p → IsPutTogether says always base p s → CutSaid says.ended s.seat s.answers s.end_is
+given_up says always from base ring p s fresh h together =
+    let ending = together.ending in
     let by = ending.left_by in
     let at = is_over (producer_capacity ring) base h.input p ending.old ending.found fresh.room (pushed_from from ring p fresh h) h.met h.given_back ending.ends in
-    subst (λ (x : SessionState). CutSaid says.ended x.seat x.answers x.end_is) settles.is
-    (cut_said says base h.input p.reader ending.old settles.o ending.found settles.left (with_last settles.o.answers settles.left.last) at.0 by.over_said by.keeps by.closes refl)
+    subst (λ (x : SessionState). CutSaid says.ended x.seat x.answers x.end_is) together.is
+    (cut_said says base h.input p.reader ending.old together.o ending.found together.left (with_last together.o.answers together.left.last) at.0 by.over_said by.keeps by.closes refl)
 
 refusals_said : (says : Says) (always : Bool) (from base : Option (List ℕ)) (ring : PushingEnd) (p : PumpState) (s : SessionState)
-    → IsFreshRing ring → (h : Pumps from ring p) → Settles says always base p s → BeginsSaid (RefusalSaid says) h.input s.answers
-refusals_said says always from base ring p s fresh h settles =
-    let by = settles.ending.left_by in
+    → IsFreshRing ring → (h : Pumps from ring p) → IsPutTogether says always base p s → BeginsSaid (RefusalSaid says) h.input s.answers
+refusals_said says always from base ring p s fresh h together =
+    let by = together.ending.left_by in
     let b = begun p.end_is (producer_capacity ring) h.input (sent p.producer) (pushed_from from ring p fresh h) in
     let all = sent p.producer ++ b.extra in
-    let said = wider says (sent p.producer) b.extra settles.ending.old.answers by.said in
-    subst (λ (x : SessionState). BeginsSaid (RefusalSaid says) h.input x.answers) settles.is (record {
+    let said = wider says (sent p.producer) b.extra together.ending.old.answers together.ending.said in
+    subst (λ (x : SessionState). BeginsSaid (RefusalSaid says) h.input x.answers) together.is (record {
       requests = all;
       begins = b.begins;
       said =
-          with_last_said (RefusalSaid says all) settles.o.answers settles.left.last
-          (kept_said (RefusalSaid says all) settles.ending.old.answers settles.o.answers by.answers said);
+          with_last_said (RefusalSaid says all) together.o.answers together.left.last
+          (kept_said (RefusalSaid says all) together.ending.old.answers together.o.answers by.answers said);
     })
 
 pub served : (says : Says) (always : Bool) (from base : Option (List ℕ)) (ring : PushingEnd) (p : PumpState) (s : SessionState)
-    → IsFreshRing ring → Pumps from ring p → Settles says always base p s → ServesUnder says always from base s
+    → IsFreshRing ring → Pumps from ring p → IsPutTogether says always base p s → ServesUnder says always from base s
 unfolding has_served
-served says always from base ring p s fresh h settles = record {
-  serves = has_served says always from base ring p s fresh h settles;
-  refusals = refusals_said says always from base ring p s fresh h settles;
+served says always from base ring p s fresh h together = record {
+  serves = has_served says always from base ring p s fresh h together;
+  refusals = refusals_said says always from base ring p s fresh h together;
 }

@@ -14,7 +14,7 @@ use Rattle.session_core.specs.declared.told.Told.TheVariants as told
 use Rattle.session_core.specs.declared.stage.Stage.TheVariants as stage
 use Rattle.session_core.specs.declared.stage.LeaveCause.{LeaveCause}
 use Rattle.session_core.specs.declared.stage.Over.TheVariants as over
-use Rattle.session_core.specs.declared.stage.Turn.TheVariants as turn
+use Rattle.session_core.specs.declared.stage.Standing.TheVariants as standing
 use Rattle.session_core.specs.Answers.{answers_text, receipts_of}
 use Rattle.session_core.specs.OutputState.{OutputState}
 use Rattle.session_core.specs.Proved.Output.{Holds, Puts}
@@ -51,7 +51,7 @@ same_first : (a b : Receipted) (receipts : List Receipted) → receipts ≡ a �
 same_first a b receipts h k = cc
 
 pub seated : (admission : Unit {0}) (next : Request) (seat : SeatState) (receipts : List Receipted) (old new : OutputState) → receipts ≡ seat.receipts → OpensBy next (Ok (opened.Seated seat)) → PutsFirst receipts old new
-    → TakesUp (stage.Opening admission) next old new (turn.GoesOn (stage.Ready seat))
+    → TakesUp (stage.Opening admission) next old new (standing.Ready (stage.Ready seat))
 seated admission next seat receipts old new same_list h put_list base handled holds talking =
     let put = subst (λ (l : List Receipted). PutsFirst l old new) same_list put_list in
     let first = first_of next seat h.0 h.1 in
@@ -66,7 +66,7 @@ seated admission next seat receipts old new same_list h put_list base handled ho
     )
 
 pub unseated : (admission : Unit {0}) (next : Request) (seat : SeatState) (receipts : List Receipted) (old new : OutputState) → receipts ≡ seat.receipts → OpensBy next (Ok (opened.Refused seat)) → PutsFirst receipts old new
-    → TakesUp (stage.Opening admission) next old new (turn.Over (over.Refused seat))
+    → TakesUp (stage.Opening admission) next old new (standing.Over (over.Refused seat))
 unseated admission next seat receipts old new same_list h put_list base handled holds talking =
     let put = subst (λ (l : List Receipted). PutsFirst l old new) same_list put_list in
     let first = first_of next seat h.0 h.1 in
@@ -118,10 +118,10 @@ untold_opening base next handled old new seat receipt h e holds none empty =
     let first = first_of next seat receipt h in
     record { holds = fresh.holds; answers = fresh.answers; unsent = fresh.unsent; one = first.0; with_it = untold_talk next handled receipt first.1 none }
 
-pub opening_untold : (admission : Unit {0}) (next : Request) (seat : SeatState) (old new : OutputState) → OpensBy next (Ok (opened.Seated seat)) → new ≡ old → TakesUp (stage.Opening admission) next old new (turn.Over (over.OpeningUntold seat))
+pub opening_untold : (admission : Unit {0}) (next : Request) (seat : SeatState) (old new : OutputState) → OpensBy next (Ok (opened.Seated seat)) → new ≡ old → TakesUp (stage.Opening admission) next old new (standing.Over (over.OpeningUntold seat))
 opening_untold admission next seat old new h e base handled holds talking = (h.0, untold_opening base next handled old new seat h.0 h.1 e holds talking.0 talking.1, h.2)
 
-pub refusal_untold : (admission : Unit {0}) (next : Request) (seat : SeatState) (old new : OutputState) → OpensBy next (Ok (opened.Refused seat)) → new ≡ old → TakesUp (stage.Opening admission) next old new (turn.Over (over.RefusalUntold seat))
+pub refusal_untold : (admission : Unit {0}) (next : Request) (seat : SeatState) (old new : OutputState) → OpensBy next (Ok (opened.Refused seat)) → new ≡ old → TakesUp (stage.Opening admission) next old new (standing.Over (over.RefusalUntold seat))
 refusal_untold admission next seat old new h e base handled holds talking = (h.0, untold_opening base next handled old new seat h.0 h.1 e holds talking.0 talking.1, h.2)
 
 -- ---- openings that are not recorded
@@ -151,7 +151,7 @@ refused_by admission base next handled o refusal.Waiting found e holds h = absur
 refused_by admission base next handled o refusal.NotHere found e holds h = absurd e
 refused_by admission base next handled o (refusal.Foreign seen len) found e holds h = absurd e
 
-pub unopened : (admission back : Unit {0}) (next : Request) (old new : OutputState) (refusal : Refusal) (found : LeaveCause) → AsksForASeat next → PutsGivenUp old new refusal found → TakesUp (stage.Opening admission) next old new (turn.Over (over.Leaves (stage.Opening back) found))
+pub unopened : (admission back : Unit {0}) (next : Request) (old new : OutputState) (refusal : Refusal) (found : LeaveCause) → AsksForASeat next → PutsGivenUp old new refusal found → TakesUp (stage.Opening admission) next old new (standing.Over (over.Leaves (stage.Opening back) found))
 unopened admission back next old new refusal found is_opening (inl h) base handled holds talking =
     refused_by back base next handled new refusal found h.0 (h.1.holds base holds) (is_unopened next handled old new refusal is_opening (wanting refusal found h.0) talking.0 talking.1 h.1)
 unopened admission back next old new refusal found is_opening (inr h) base handled holds talking =

@@ -18,7 +18,7 @@ use Rattle.session_core.specs.declared.told.Told.TheVariants as told
 use Rattle.session_core.specs.declared.stage.Stage.TheVariants as stage
 use Rattle.session_core.specs.declared.stage.LeaveCause.{LeaveCause}
 use Rattle.session_core.specs.declared.stage.Over.TheVariants as over
-use Rattle.session_core.specs.declared.stage.Turn.TheVariants as turn
+use Rattle.session_core.specs.declared.stage.Standing.TheVariants as standing
 use Rattle.session_core.specs.Answers.{receipt_of, receipts_of}
 use Rattle.session_core.specs.OutputState.{OutputState}
 use Rattle.session_core.specs.Proved.Output.{Holds, Puts, SendsAll, FailsToSend}
@@ -196,7 +196,7 @@ resumed_part base handled call seat after receipt old new adds kind more put w =
 }
 
 pub resumed_whole : (base : Option (List ℕ)) (handled : List Request) (call : Call) (seat after : SeatState) (receipt : Receipted) (old new : OutputState) → Adds seat after act.Resume receipt → EndsOrGoesOn receipt.record_is.outcome
-    → goes_on receipt.record_is.outcome ≡ false → Puts old new (told.Recorded receipt) → IsWaitingAt base handled call seat old → TurnBy base handled (request.Call call) new (turn.GoesOn (stage.Ready after))
+    → goes_on receipt.record_is.outcome ≡ false → Puts old new (told.Recorded receipt) → IsWaitingAt base handled call seat old → TurnBy base handled (request.Call call) new (standing.Ready (stage.Ready after))
 resumed_whole base handled call seat after receipt old new adds kind ends put w = (
   put.holds base w.holds,
   (
@@ -216,9 +216,9 @@ with_resumed false handled old call receipt e kind act_is w =
     talked_converses (handled ++ request.Call call ∷ []) new (waits_no_more handled old new call receipt w act_is (is_reply receipt.record_is.outcome kind e) refl)
 
 pub resumed_untold : (base : Option (List ℕ)) (handled : List Request) (call : Call) (seat after : SeatState) (receipt : Receipted) (old new : OutputState) → Adds seat after act.Resume receipt → EndsOrGoesOn receipt.record_is.outcome → new ≡ old
-    → IsWaitingAt base handled call seat old → TurnBy base handled (request.Call call) new (turn.Over (over.Untold after receipt))
+    → IsWaitingAt base handled call seat old → TurnBy base handled (request.Call call) new (standing.Over (over.Untold after receipt))
 resumed_untold base handled call seat after receipt old new adds kind e w =
-    subst (λ (o : OutputState). TurnBy base handled (request.Call call) o (turn.Over (over.Untold after receipt))) (sym e) (record {
+    subst (λ (o : OutputState). TurnBy base handled (request.Call call) o (standing.Over (over.Untold after receipt))) (sym e) (record {
       holds = w.holds;
       receipts_are = adds.receives.receipts ∙ ap (λ (l : List Receipted). l ++ receipt ∷ []) w.receipts;
       granted = granted_more seat.receipts after.receipts receipt adds.receives.receipts w.granted;

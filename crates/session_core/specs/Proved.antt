@@ -4,8 +4,7 @@ pub mod Ends
 pub mod Closing
 pub mod Memory
 pub mod Desk
-pub mod Settling
-pub mod Shutting
+pub mod Together
 pub mod Laws
 pub mod Saying
 pub mod Leaving

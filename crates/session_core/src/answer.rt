@@ -6,7 +6,6 @@ ghost use Rattle.run_history.specs.Fronts.{Grows, Since};
 ghost use Rattle.session_core.specs.Answering.{AnswersRing, IsShutAtItsEnd};
 ghost use Rattle.session_core.specs.Proved.Leaving.{answered_of, seat_of};
 ghost use Rattle.session_core.specs.Proved.Desk.{StandsOn, IsAtRest};
-ghost use Rattle.session_core.specs.Proved.Shutting.{ShutIfLeft};
 
 use crate::connection::Connection;
 use crate::desk::{send_ready, take_ready, wait_on};
@@ -73,9 +72,8 @@ fn answer_all<Rt: Wait, W: Write + Connection, G: Gate, L: Run, K: KernelOf<L>>(
     standing: StandingOf<L>,
 ) -> StandingOf<L>
     ensures ring { SameConsumer ring.old ring.new }
-    ensures stands { Since front.new (λ h. StandsOn (K.says h) (received ring.old) output.old standing (received ring.new) output.new result) }
+    ensures stands { StandsOn front.new K.says W.was_shut (received ring.old) output.old standing (received ring.new) output.new result }
     ensures rests { IsAtRest output.new result }
-    ensures shut { ShutIfLeft W.was_shut output.old standing → ShutIfLeft W.was_shut output.new result }
     ensures grows { Grows front.old front.new }
 {
     let mut standing = standing;
@@ -91,8 +89,7 @@ fn answer_all<Rt: Wait, W: Write + Connection, G: Gate, L: Run, K: KernelOf<L>>(
                 note.sleep(rt);
                 Standing::Ready(stage)
             }
-            Standing::Lost(seat) => return Standing::Lost(seat),
-            Standing::Left(left) => return Standing::Left(left),
+            other => return other,
         };
     }
     unreachable!()
@@ -124,7 +121,7 @@ fn answered_by<W: Write, G: Gate, L: Run>(
         Standing::Ready(Stage::Ready(seat)) => (AnsweredSeat::Live(seat), None, None),
         Standing::Waits(seat) => (AnsweredSeat::Live(seat), None, None),
         Standing::Lost(seat) => (AnsweredSeat::Spent(seat), None, None),
-        Standing::Left(left) => (seat_of(left.seat), Some(left.end), left.last),
+        Standing::Over(left) => (seat_of(left.seat), Some(left.end), left.last),
     };
     let (answers, writer) = output.into_parts(last);
     Answered {

@@ -66,7 +66,7 @@ fn hang_up<Rt: Wait, L: Run, K: KernelOf<L>>(
 }
 
 /// Hangs up the process of a session, if there is one.
-fn leave<Rt: Wait, L: Run, K: KernelOf<L>>(
+fn hang_up_stage<Rt: Wait, L: Run, K: KernelOf<L>>(
     rt: &Rt,
     kernel: &K,
     front: &mut Front<L>,
@@ -100,9 +100,9 @@ fn left_by<L: Run>(ended: (SpentRunSeat<L>, End), last: Option<Receipt>) -> Left
     }
 }
 
-/// Leaves a session whose memory ran out for its last answer: the other answers are written, and its process is hung up. Where the
+/// Closes a session whose memory ran out for its last answer: the other answers are written, and its process is hung up. Where the
 /// writer fails, the last answer counts as one more that is not written.
-fn leave_untold<Rt: Wait, W: Write, G: Gate, L: Run, K: KernelOf<L>>(
+fn close_untold<Rt: Wait, W: Write, G: Gate, L: Run, K: KernelOf<L>>(
     rt: &Rt,
     output: &mut Output<W, G>,
     kernel: &K,
@@ -128,8 +128,8 @@ fn leave_untold<Rt: Wait, W: Write, G: Gate, L: Run, K: KernelOf<L>>(
     }
 }
 
-/// Leaves a session that is over.
-pub(crate) fn leave_all<Rt: Wait, W: Write, G: Gate, L: Run, K: KernelOf<L>>(
+/// Closes a session that is over.
+pub(crate) fn close_session<Rt: Wait, W: Write, G: Gate, L: Run, K: KernelOf<L>>(
     rt: &Rt,
     output: &mut Output<W, G>,
     kernel: &K,
@@ -146,17 +146,17 @@ pub(crate) fn leave_all<Rt: Wait, W: Write, G: Gate, L: Run, K: KernelOf<L>>(
     match over {
         Over::Leaves { stage, why } => {
             let end = send_last(output, why);
-            leave(rt, kernel, front, stage, end)
+            hang_up_stage(rt, kernel, front, stage, end)
         }
         Over::Unwritten(stage) => {
             let failed = End::WriteFault {
                 sent: output.sent(),
             };
-            leave(rt, kernel, front, stage, failed)
+            hang_up_stage(rt, kernel, front, stage, failed)
         }
         Over::OpeningUntold(seat) => left_by(hang_up(rt, kernel, front, seat, End::NoMemory), None),
         Over::RefusalUntold(seat) => left_by((seat, End::NoMemory), None),
-        Over::Untold { seat, receipt } => leave_untold(rt, output, kernel, front, seat, receipt),
+        Over::Untold { seat, receipt } => close_untold(rt, output, kernel, front, seat, receipt),
         Over::Refused(seat) => {
             let end = send_last(output, LeaveCause::Closed);
             left_by((seat, end), None)

@@ -1,24 +1,22 @@
 //! The desk of a session: what answers its requests, whichever of its two threads holds it.
 
-ghost use Rattle.std.specs.Prelude.{◌≡◌, ◌∷◌, ◌++◌, ℕ, List, Option, Some, true, [], length};
+ghost use Rattle.std.specs.Prelude.{◌≡◌, ◌∷◌, ◌++◌, List, Some, true, [], length};
 ghost use Rattle.rtrb.specs.Ring.{received, known_items, SameConsumer};
 ghost use Rattle.call_types.specs.declared.act.Record.{Record};
 ghost use Rattle.call_types.specs.declared.request.Request.{Request};
 ghost use Rattle.run_history.specs.Fronts.{Grows, Since};
 ghost use Rattle.session_core.specs.Proved.Losing.{IsToldOf, is_opening, ready_process};
-ghost use Rattle.session_core.specs.Proved.Shutting.{ShutIfLeft};
-ghost use Rattle.session_core.specs.Proved.Desk.{TurnStands, StandsBy, StandsOn, SendsOn, SentIfOn, SentIfReady, IsReady, LeftBy, EndsOn, attended_by};
-ghost use Rattle.session_core.specs.Refusals.{AreSaid, RefusalSaid};
-ghost use Rattle.session_core.specs.Proved.Saying.{IsReadingEnd, OverSaid, TurnSaid};
+ghost use Rattle.session_core.specs.Proved.Desk.{EndsOn, LeftBy, SentIfReady, StandsBy, StandsOn, TurnsTo, attended_by};
+ghost use Rattle.session_core.specs.Proved.Saying.{IsReadingEnd, OverSaid};
 ghost use Rattle.session_core.specs.declared.stage.Standing.TheVariants as standings;
 
-use crate::closing::leave_all;
+use crate::closing::close_session;
 use crate::connection::Connection;
 use crate::gate::Gate;
 use crate::note::Note;
 use crate::output::Output;
 use crate::stage::{
-    LeaveCause, LeftOf, Over, OverOf, Stage, StageOf, Standing, StandingOf, Turn, TurnOf,
+    LeaveCause, LeftOf, Over, OverOf, Stage, StageOf, Standing, StandingOf, TurnOf,
 };
 use crate::turns::{take_next, wait_once};
 use call_types::request::Request;
@@ -68,36 +66,33 @@ impl<D: Naming, W: Write + Connection, G: Gate, L: Run, K: KernelOf<L>> Model
     for Desk<D, W, G, L, K> {
     ghost use Rattle.rtrb.specs.Ring.{received};
     ghost use Rattle.session_core.specs.DeskState.{DeskState};
-    ghost use Rattle.run_history.specs.Fronts.{Since};
     ghost use Rattle.session_core.specs.Proved.Desk.{IsRingOf, StandsThere};
-    ghost use Rattle.session_core.specs.Proved.Shutting.{ShutThere};
 
     ghost Value = { DeskState };
 
     ghost view = { λ d. record { ring = d.consumer; output_is = d.output; standing = d.standing } };
 
-    ghost invariant = { λ d. IsRingOf D.ring d.consumer × Since d.front (λ h. StandsThere (K.says h) D.base (received d.consumer) d.output d.standing) × ShutThere W.was_shut d.output d.standing };
+    ghost invariant = { λ d. IsRingOf D.ring d.consumer × StandsThere d.front K.says W.was_shut D.base (received d.consumer) d.output d.standing };
 }
 
-/// Leaves a session that is over, and shuts its connection.
-fn leave_and_shut<Rt: Wait, W: Write + Connection, G: Gate, L: Run, K: KernelOf<L>>(
+/// Closes a session that is over, and shuts its connection.
+fn close_and_shut<Rt: Wait, W: Write + Connection, G: Gate, L: Run, K: KernelOf<L>>(
     rt: &Rt,
     output: &mut Output<W, G>,
     kernel: &K,
     front: &mut Front<L>,
     over: OverOf<L>,
 ) -> LeftOf<L>
-    ensures left { Since front.new (λ h. (requests : List Request) → AreSaid (RefusalSaid (K.says h) requests) output.old.answers → OverSaid (K.says h) over → LeftBy (K.says h) requests output.old over output.new result) }
+    ensures left { Since front.new (λ h. OverSaid (K.says h) over → LeftBy (K.says h) output.old over output.new result) }
     ensures shut { W.was_shut output.new.sink.contents }
     ensures grows { Grows front.old front.new }
 {
-    let left = leave_all(rt, output, kernel, front, over);
+    let left = close_session(rt, output, kernel, front, over);
     output.shut();
     left
 }
 
-/// Where a session stands after a turn. A session that is over is left now, unless its call was given up: how that one
-/// ends is known only when no more is read.
+/// Where a session stands after a turn. One that is over is closed now.
 fn stand<Rt: Wait, W: Write + Connection, G: Gate, L: Run, K: KernelOf<L>>(
     rt: &Rt,
     output: &mut Output<W, G>,
@@ -105,16 +100,15 @@ fn stand<Rt: Wait, W: Write + Connection, G: Gate, L: Run, K: KernelOf<L>>(
     front: &mut Front<L>,
     turn: TurnOf<L>,
 ) -> StandingOf<L>
-    ensures stands { Since front.new (λ h. StandsBy (K.says h) output.old turn output.new result) }
-    ensures sent { SentIfOn output.old turn → SentIfReady output.new result }
-    ensures shut { ShutIfLeft W.was_shut output.new result }
+    ensures stands { Since front.new (λ h. StandsBy (K.says h) W.was_shut output.old turn output.new result) }
+    ensures sent { SentIfReady output.old turn → SentIfReady output.new result }
     ensures grows { Grows front.old front.new }
 {
     match turn {
-        Turn::GoesOn(stage) => Standing::Ready(stage),
-        Turn::Waits(seat) => Standing::Waits(seat),
-        Turn::Lost(seat) => Standing::Lost(seat),
-        Turn::Over(over) => Standing::Left(leave_and_shut(rt, output, kernel, front, over)),
+        Standing::Ready(stage) => Standing::Ready(stage),
+        Standing::Waits(seat) => Standing::Waits(seat),
+        Standing::Lost(seat) => Standing::Lost(seat),
+        Standing::Over(over) => Standing::Over(close_and_shut(rt, output, kernel, front, over)),
     }
 }
 
@@ -129,21 +123,18 @@ fn take_ring<Rt: Wait, W: Write, G: Gate, L: Run, K: KernelOf<L>>(
     stage: StageOf<L>,
 ) -> TurnOf<L>
     ensures ring { SameConsumer consumer.old consumer.new }
-    ensures stands { Since front.new (λ h. (base : Option (List ℕ)) → IsReady (RefusalSaid (K.says h)) base (received consumer.old) output.old stage → TurnStands (RefusalSaid (K.says h)) base (received consumer.new) output.new result) }
-    ensures said { Since front.new (λ h. TurnSaid (K.says h) result) }
+    ensures stands { Since front.new (λ h. TurnsTo (K.says h) (received consumer.old) output.old stage (received consumer.new) output.new result) }
     ensures grows { Grows front.old front.new }
 {
     let mut stage = stage;
     for _ in rt.forever() {
         let request = match consumer.pop() {
             Ok(request) => request,
-            Err(_) => return Turn::GoesOn(stage),
+            Err(_) => return Standing::Ready(stage),
         };
         match take_next(rt, note, output, kernel, front, stage, request) {
-            Turn::GoesOn(after) => stage = after,
-            Turn::Waits(seat) => return Turn::Waits(seat),
-            Turn::Lost(seat) => return Turn::Lost(seat),
-            Turn::Over(over) => return Turn::Over(over),
+            Standing::Ready(after) => stage = after,
+            other => return other,
         }
     }
     unreachable!()
@@ -160,8 +151,7 @@ pub(crate) fn take_ready<Rt: Wait, W: Write + Connection, G: Gate, L: Run, K: Ke
     standing: StandingOf<L>,
 ) -> StandingOf<L>
     ensures ring { SameConsumer consumer.old consumer.new }
-    ensures stands { Since front.new (λ h. StandsOn (K.says h) (received consumer.old) output.old standing (received consumer.new) output.new result) }
-    ensures shut { ShutIfLeft W.was_shut output.old standing → ShutIfLeft W.was_shut output.new result }
+    ensures stands { StandsOn front.new K.says W.was_shut (received consumer.old) output.old standing (received consumer.new) output.new result }
     ensures grows { Grows front.old front.new }
 {
     match standing {
@@ -169,9 +159,7 @@ pub(crate) fn take_ready<Rt: Wait, W: Write + Connection, G: Gate, L: Run, K: Ke
             let turn = take_ring(rt, note, kernel, front, consumer, output, stage);
             stand(rt, output, kernel, front, turn)
         }
-        Standing::Waits(seat) => Standing::Waits(seat),
-        Standing::Lost(seat) => Standing::Lost(seat),
-        Standing::Left(left) => Standing::Left(left),
+        other => other,
     }
 }
 
@@ -180,13 +168,12 @@ fn write_out<W: Write, G: Gate, L: Run, K: KernelOf<L>>(
     output: &mut Output<W, G>,
     stage: StageOf<L>,
 ) -> TurnOf<L>
-    ensures stands { (h : List Record) → SendsOn (K.says h) output.old stage output.new result }
-    ensures said { (h : List Record) → TurnSaid (K.says h) result }
-    ensures sent { SentIfOn output.new result }
+    ensures stands { (h : List Record) (taken : List Request) → TurnsTo (K.says h) taken output.old stage taken output.new result }
+    ensures sent { SentIfReady output.new result }
 {
     match output.flush() {
-        Ok(()) => Turn::GoesOn(stage),
-        Err(_) => Turn::Over(Over::Unwritten(stage)),
+        Ok(()) => Standing::Ready(stage),
+        Err(_) => Standing::Over(Over::Unwritten(stage)),
     }
 }
 
@@ -198,9 +185,8 @@ pub(crate) fn send_ready<Rt: Wait, W: Write + Connection, G: Gate, L: Run, K: Ke
     output: &mut Output<W, G>,
     standing: StandingOf<L>,
 ) -> StandingOf<L>
-    ensures stands { Since front.new (λ h. (taken : List Request) → StandsOn (K.says h) taken output.old standing taken output.new result) }
+    ensures stands { (taken : List Request) → StandsOn front.new K.says W.was_shut taken output.old standing taken output.new result }
     ensures sent { SentIfReady output.new result }
-    ensures shut { ShutIfLeft W.was_shut output.old standing → ShutIfLeft W.was_shut output.new result }
     ensures grows { Grows front.old front.new }
 {
     match standing {
@@ -208,9 +194,7 @@ pub(crate) fn send_ready<Rt: Wait, W: Write + Connection, G: Gate, L: Run, K: Ke
             let turn = write_out::<W, G, L, K>(output, stage);
             stand(rt, output, kernel, front, turn)
         }
-        Standing::Waits(seat) => Standing::Waits(seat),
-        Standing::Lost(seat) => Standing::Lost(seat),
-        Standing::Left(left) => Standing::Left(left),
+        other => other,
     }
 }
 
@@ -222,8 +206,7 @@ pub(crate) fn wait_on<Rt: Wait, W: Write + Connection, G: Gate, L: Run, K: Kerne
     output: &mut Output<W, G>,
     seat: RunSeat<L>,
 ) -> StandingOf<L>
-    ensures stands { Since front.new (λ h. (taken : List Request) → StandsOn (K.says h) taken output.old (standings.Waits seat) taken output.new result) }
-    ensures shut { ShutIfLeft W.was_shut output.new result }
+    ensures stands { (taken : List Request) → StandsOn front.new K.says W.was_shut taken output.old (standings.Waits seat) taken output.new result }
     ensures grows { Grows front.old front.new }
 {
     let turn = wait_once(rt, output, kernel, front, seat);
@@ -238,15 +221,12 @@ fn wait_ready<Rt: Wait, W: Write + Connection, G: Gate, L: Run, K: KernelOf<L>>(
     output: &mut Output<W, G>,
     standing: StandingOf<L>,
 ) -> StandingOf<L>
-    ensures stands { Since front.new (λ h. (taken : List Request) → StandsOn (K.says h) taken output.old standing taken output.new result) }
-    ensures shut { ShutIfLeft W.was_shut output.old standing → ShutIfLeft W.was_shut output.new result }
+    ensures stands { (taken : List Request) → StandsOn front.new K.says W.was_shut taken output.old standing taken output.new result }
     ensures grows { Grows front.old front.new }
 {
     match standing {
         Standing::Waits(seat) => wait_on(rt, kernel, front, output, seat),
-        Standing::Ready(stage) => Standing::Ready(stage),
-        Standing::Lost(seat) => Standing::Lost(seat),
-        Standing::Left(left) => Standing::Left(left),
+        other => other,
     }
 }
 
@@ -280,10 +260,7 @@ fn ready_process<L: Run>(standing: &StandingOf<L>) -> Option<u32>
 {
     match standing {
         Standing::Ready(Stage::Ready(seat)) => Some(seat.pid()),
-        Standing::Ready(Stage::Opening(_))
-        | Standing::Waits(_)
-        | Standing::Lost(_)
-        | Standing::Left(_) => None,
+        _ => None,
     }
 }
 
@@ -297,8 +274,7 @@ fn take_late<Rt: Wait, W: Write + Connection, G: Gate, L: Run, K: KernelOf<L>>(
     stage: StageOf<L>,
     request: Request,
 ) -> (StandingOf<L>, Option<Marked>)
-    ensures stands { Since front.new (λ h. (taken : List Request) → StandsOn (K.says h) taken output.old (standings.Ready stage) (taken ++ request ∷ []) output.new result.0) }
-    ensures shut { ShutIfLeft W.was_shut output.new result.0 }
+    ensures stands { (l : List Request) → StandsOn front.new K.says W.was_shut l output.old (standings.Ready stage) (l ++ request ∷ []) output.new result.0 }
     ensures told { is_opening stage ≡ true → IsToldOf K.marks (ready_process result.0) result.1 }
     ensures grows { Grows front.old front.new }
 {
@@ -314,9 +290,9 @@ fn take_late<Rt: Wait, W: Write + Connection, G: Gate, L: Run, K: KernelOf<L>>(
     (standing, told)
 }
 
-/// Answers the `count` requests that are still in the ring, once both its ends are in one thread. Then it leaves the
+/// Answers the `count` requests that are still in the ring, once both its ends are in one thread. Then it closes the
 /// session, for the reason that ended its reads.
-pub(crate) fn leave_requests<Rt: Wait, W: Write + Connection, G: Gate, L: Run, K: KernelOf<L>>(
+pub(crate) fn answer_rest<Rt: Wait, W: Write + Connection, G: Gate, L: Run, K: KernelOf<L>>(
     rt: &Rt,
     note: &Note,
     kernel: &K,
@@ -329,8 +305,7 @@ pub(crate) fn leave_requests<Rt: Wait, W: Write + Connection, G: Gate, L: Run, K
 ) -> LeftOf<L>
     requires count { length (known_items consumer.old) ≡ count }
     requires reading { IsReadingEnd why }
-    ensures ends { Since front.new (λ h. EndsOn (K.says h) (received consumer.old) (known_items consumer.old) why output.old standing output.new result) }
-    ensures shut { ShutIfLeft W.was_shut output.old standing → W.was_shut output.new.sink.contents }
+    ensures ends { EndsOn front.new K.says W.was_shut (received consumer.old) (known_items consumer.old) why output.old standing output.new result }
     ensures grows { Grows front.old front.new }
 {
     let mut standing = standing;
@@ -339,7 +314,7 @@ pub(crate) fn leave_requests<Rt: Wait, W: Write + Connection, G: Gate, L: Run, K
         standing = match standing {
             Standing::Ready(stage) => {
                 if count == 0 {
-                    return leave_and_shut(rt, output, kernel, front, Over::Leaves { stage, why });
+                    return close_and_shut(rt, output, kernel, front, Over::Leaves { stage, why });
                 }
                 count -= 1;
                 let (after, _told) = take_late(
@@ -354,14 +329,14 @@ pub(crate) fn leave_requests<Rt: Wait, W: Write + Connection, G: Gate, L: Run, K
                 after
             }
             Standing::Waits(seat) => wait_on(rt, kernel, front, output, seat),
-            Standing::Lost(seat) => return leave_and_shut(
+            Standing::Lost(seat) => return close_and_shut(
                 rt,
                 output,
                 kernel,
                 front,
                 Over::Lost { seat, why },
             ),
-            Standing::Left(left) => return left,
+            Standing::Over(left) => return left,
         };
     }
     unreachable!()
@@ -385,7 +360,7 @@ fn attended_by<L: Run>(standing: &StandingOf<L>) -> Attended
     match standing {
         Standing::Ready(_) => Attended::Ready,
         Standing::Waits(_) => Attended::Waits,
-        Standing::Lost(_) | Standing::Left(_) => Attended::Left,
+        Standing::Lost(_) | Standing::Over(_) => Attended::Left,
     }
 }
 

@@ -5,7 +5,7 @@ ghost use Rattle.std.specs.Option.{option_map};
 ghost use Rattle.rtrb.specs.Ring.{sent, received, producer_capacity, IsPair};
 ghost use Rattle.run_history.specs.Fronts.{Since};
 ghost use Rattle.session_core.specs.Proved.Desk.{IsNamedPair};
-ghost use Rattle.session_core.specs.Proved.Settling.{Settles, unserved_by, why_of};
+ghost use Rattle.session_core.specs.Proved.Together.{IsPutTogether, unserved_by, why_of};
 ghost use Rattle.session_core.specs.Proved.Output.{fresh_output};
 ghost use Rattle.session_core.specs.Said.{CutSaid, EndSaid};
 ghost use Rattle.session_core.specs.Proved.Saying.{IsReadingEnd};
@@ -14,7 +14,7 @@ ghost use Rattle.session_core.specs.Refusals.{ServesUnder};
 ghost use Rattle.session_core.specs.Served.{failures_after};
 
 use crate::connection::Connection;
-use crate::desk::{Desk, Naming, leave_requests};
+use crate::desk::{Desk, Naming, answer_rest};
 use crate::end::End;
 use crate::gate::Gate;
 use crate::output::Output;
@@ -205,7 +205,7 @@ fn serve_shared<
             drop(place.replace(Desk::new(consumer, output, front, admission)));
             drop(place);
             shared.answer_waits(&rt);
-            leave_rest(&rt, shared, thread.join(&rt))
+            put_together(&rt, shared, thread.join(&rt))
         }
         Err(_) => {
             let served = unstarted(alloc, None, output, admission, End::NoThread);
@@ -252,7 +252,7 @@ fn why_of(end: PumpEnd) -> LeaveCause
 }
 
 /// Answers what the ring still holds when no more is read, and puts the session together.
-fn leave_rest<
+fn put_together<
     Rt: Wait,
     R: Read + Drop,
     D: Naming,
@@ -262,7 +262,7 @@ fn leave_rest<
     K: KernelOf<L>,
 >(rt: &Rt, shared: &Shared<D, W, G, L, K>, pushed: Pushed<R>) -> (Served<R, W, L>, Front<L>)
     requires { IsNamedPair D.ring pushed.producer }
-    ensures settles { Since result.1 (λ h. Settles (K.says h) G.is_open D.base pushed result.0) }
+    ensures together { Since result.1 (λ h. IsPutTogether (K.says h) G.is_open D.base pushed result.0) }
     ensures shut { W.was_shut result.0.writer.contents }
 {
     let Pushed {
@@ -284,7 +284,7 @@ fn leave_rest<
     };
     let mut producer = producer;
     let count = consumer.slots_beside(&mut producer);
-    let left = leave_requests(
+    let left = answer_rest(
         rt,
         &shared.note,
         &*shared.kernel,

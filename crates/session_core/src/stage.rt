@@ -49,17 +49,6 @@ pub(crate) enum Over<S, P, A> {
     Foreign(P),
 }
 
-/// What came of a request.
-#[derive(Drop)]
-pub(crate) enum Turn<S, P, A> {
-    GoesOn(Stage<S, A>),
-    /// It is a call, in which the process of this seat waits.
-    Waits(S),
-    /// It was a call that waited. The kernel gave it up, and has recorded the exit of the process.
-    Lost(P),
-    Over(Over<S, P, A>),
-}
-
 /// A session that is left: its spent seat, of the kind `P`, or its admission, of the kind `A`; its end; and, if its last answer is not
 /// written, the receipt of that answer.
 #[derive(Drop)]
@@ -69,17 +58,19 @@ pub(crate) struct LeftSession<P, A> {
     pub(crate) last: Option<Receipt>,
 }
 
-/// Where a session stands between two turns.
+/// Where a session stands. `O` is what a session is that takes up no request any more: right after a turn an `Over`, which `stand` closes,
+/// and from then on a `LeftSession`.
 #[derive(Drop)]
-pub(crate) enum Standing<S, P, A> {
+pub(crate) enum Standing<S, P, A, O> {
     /// A request may be taken up.
     Ready(Stage<S, A>),
     /// The process of this seat waits in a call.
     Waits(S),
-    /// The kernel gave up the call that the process waited in, and has recorded its exit. No request is taken up any more.
+    /// The kernel gave up the call that the process waited in, and has recorded its exit. No request is taken up any more. How the session
+    /// ends is known when no more is read.
     Lost(P),
-    /// It is left. No request is taken up any more.
-    Left(LeftSession<P, A>),
+    /// It is over.
+    Over(O),
 }
 
 /// Each of these for the seats of one run.
@@ -87,8 +78,10 @@ pub(crate) type StageOf<L> = Stage<RunSeat<L>, AdmissionTo<L>>;
 
 pub(crate) type OverOf<L> = Over<RunSeat<L>, SpentRunSeat<L>, AdmissionTo<L>>;
 
-pub(crate) type TurnOf<L> = Turn<RunSeat<L>, SpentRunSeat<L>, AdmissionTo<L>>;
-
 pub(crate) type LeftOf<L> = LeftSession<SpentRunSeat<L>, AdmissionTo<L>>;
 
-pub(crate) type StandingOf<L> = Standing<RunSeat<L>, SpentRunSeat<L>, AdmissionTo<L>>;
+/// Where a session stands right after a turn.
+pub(crate) type TurnOf<L> = Standing<RunSeat<L>, SpentRunSeat<L>, AdmissionTo<L>, OverOf<L>>;
+
+/// Where it stands between two turns.
+pub(crate) type StandingOf<L> = Standing<RunSeat<L>, SpentRunSeat<L>, AdmissionTo<L>, LeftOf<L>>;

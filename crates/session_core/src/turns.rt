@@ -12,7 +12,7 @@ ghost use Rattle.session_core.specs.Refusals.{RefusalSaid};
 use crate::gate::Gate;
 use crate::note::Note;
 use crate::output::Output;
-use crate::stage::{LeaveCause, Over, Stage, StageOf, Turn, TurnOf};
+use crate::stage::{LeaveCause, Over, Stage, StageOf, Standing, TurnOf};
 use call_types::call::Call;
 use call_types::outcome::Outcome;
 use call_types::refusal::Refusal;
@@ -75,17 +75,17 @@ fn take_opening<Rt: Wait, W: Write, G: Gate, L: Run, K: KernelOf<L>>(
         Ok(Opened::Seated(seat)) => {
             note.opened(rt, seat.pid());
             match put_first(output, seat.receipts()) {
-                Ok(()) => Turn::GoesOn(Stage::Ready(seat)),
-                Err(_) => Turn::Over(Over::OpeningUntold(seat)),
+                Ok(()) => Standing::Ready(Stage::Ready(seat)),
+                Err(_) => Standing::Over(Over::OpeningUntold(seat)),
             }
         }
         Ok(Opened::Refused(seat)) => match put_first(output, seat.receipts()) {
-            Ok(()) => Turn::Over(Over::Refused(seat)),
-            Err(_) => Turn::Over(Over::RefusalUntold(seat)),
+            Ok(()) => Standing::Over(Over::Refused(seat)),
+            Err(_) => Standing::Over(Over::RefusalUntold(seat)),
         },
         Err(NotOpened { admission, refusal }) => {
             let why = put_given_up(output, refusal);
-            Turn::Over(Over::Leaves {
+            Standing::Over(Over::Leaves {
                 stage: Stage::Opening(admission),
                 why,
             })
@@ -116,16 +116,16 @@ fn end_given_up<W: Write, G: Gate, L: Run>(
 {
     let seat = ended.seat;
     match ended.why {
-        Why::NoMemory => Turn::Over(Over::Ended {
+        Why::NoMemory => Standing::Over(Over::Ended {
             seat,
             why: put_given_up(output, Refusal::NoMemory),
         }),
-        Why::RunFull => Turn::Over(Over::Ended {
+        Why::RunFull => Standing::Over(Over::Ended {
             seat,
             why: put_given_up(output, Refusal::RunFull),
         }),
-        Why::Lost => Turn::Lost(seat),
-        Why::Foreign => Turn::Over(Over::Foreign(seat)),
+        Why::Lost => Standing::Lost(seat),
+        Why::Foreign => Standing::Over(Over::Foreign(seat)),
         Why::HungUp => unreachable!(),
     }
 }
@@ -162,7 +162,7 @@ pub(crate) fn wait_once<Rt: Wait, W: Write, G: Gate, L: Run, K: KernelOf<L>>(
 {
     match output.flush() {
         Ok(()) => {}
-        Err(_) => return Turn::Over(Over::Unwritten(Stage::Ready(seat))),
+        Err(_) => return Standing::Over(Over::Unwritten(Stage::Ready(seat))),
     }
     let (seat, receipt) = match finish_sent(rt, output, kernel, front, seat) {
         Finished::Resumed { seat, receipt } => (seat, receipt),
@@ -170,9 +170,9 @@ pub(crate) fn wait_once<Rt: Wait, W: Write, G: Gate, L: Run, K: KernelOf<L>>(
     };
     let waits = goes_on(&receipt.record().outcome);
     match output.put_recorded(receipt) {
-        Ok(()) if waits => Turn::Waits(seat),
-        Ok(()) => Turn::GoesOn(Stage::Ready(seat)),
-        Err(receipt) => Turn::Over(Over::Untold { seat, receipt }),
+        Ok(()) if waits => Standing::Waits(seat),
+        Ok(()) => Standing::Ready(Stage::Ready(seat)),
+        Err(receipt) => Standing::Over(Over::Untold { seat, receipt }),
     }
 }
 
@@ -195,8 +195,8 @@ fn take_call<Rt: Wait, W: Write, G: Gate, L: Run, K: KernelOf<L>>(
         Ok(receipt) => receipt,
         Err(refusal) => {
             return match output.put_refused(refusal) {
-                Ok(()) => Turn::GoesOn(Stage::Ready(seat)),
-                Err(_) => Turn::Over(Over::Leaves {
+                Ok(()) => Standing::Ready(Stage::Ready(seat)),
+                Err(_) => Standing::Over(Over::Leaves {
                     stage: Stage::Ready(seat),
                     why: LeaveCause::NoMemory,
                 }),
@@ -205,9 +205,9 @@ fn take_call<Rt: Wait, W: Write, G: Gate, L: Run, K: KernelOf<L>>(
     };
     let waits = goes_on(&receipt.record().outcome);
     match output.put_recorded(receipt) {
-        Ok(()) if waits => Turn::Waits(seat),
-        Ok(()) => Turn::GoesOn(Stage::Ready(seat)),
-        Err(receipt) => Turn::Over(Over::Untold { seat, receipt }),
+        Ok(()) if waits => Standing::Waits(seat),
+        Ok(()) => Standing::Ready(Stage::Ready(seat)),
+        Err(receipt) => Standing::Over(Over::Untold { seat, receipt }),
     }
 }
 
@@ -242,7 +242,7 @@ fn take_up<Rt: Wait, W: Write, G: Gate, L: Run, K: KernelOf<L>>(
         (Stage::Ready(seat), Request::Call(call)) => take_call(
             rt, output, kernel, front, seat, call,
         ),
-        (stage, _) => Turn::Over(Over::Leaves {
+        (stage, _) => Standing::Over(Over::Leaves {
             stage,
             why: LeaveCause::Malformed,
         }),
@@ -266,6 +266,6 @@ pub(crate) fn take_next<Rt: Wait, W: Write, G: Gate, L: Run, K: KernelOf<L>>(
 {
     match output.flush_much() {
         Ok(()) => take_up(rt, note, output, kernel, front, stage, request),
-        Err(_) => Turn::Over(Over::Unwritten(stage)),
+        Err(_) => Standing::Over(Over::Unwritten(stage)),
     }
 }

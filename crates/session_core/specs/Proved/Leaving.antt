@@ -21,14 +21,14 @@ seat_at (standing.Ready (stage.Opening admission)) = seat.None admission
 seat_at (standing.Ready (stage.Ready live)) = seat.Live live
 seat_at (standing.Waits live) = seat.Live live
 seat_at (standing.Lost spent) = seat.Spent spent
-seat_at (standing.Left left) = seat_of left.seat
+seat_at (standing.Over left) = seat_of left.seat
 
 abbrev pub end_at : Standing → Option End
-end_at (standing.Left left) = Some left.end
+end_at (standing.Over left) = Some left.end
 end_at other = None
 
 abbrev pub last_at : Standing → Option Receipted
-last_at (standing.Left left) = left.last
+last_at (standing.Over left) = left.last
 last_at other = None
 
 -- what was answered of such a session

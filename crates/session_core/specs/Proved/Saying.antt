@@ -9,7 +9,7 @@ use Rattle.session_core.specs.Stages.{Over, Turn}
 use Rattle.session_core.specs.declared.stage.LeaveCause.{LeaveCause}
 use Rattle.session_core.specs.declared.stage.LeaveCause.TheVariants as why
 use Rattle.session_core.specs.declared.stage.Over.TheVariants as over
-use Rattle.session_core.specs.declared.stage.Turn.TheVariants as turn
+use Rattle.session_core.specs.declared.stage.Standing.TheVariants as standing
 use Rattle.session_core.specs.Said.{SaidUnopened, SaidEnded}
 use Rattle.system_lock.specs.Kernel.{Says}
 
@@ -48,9 +48,9 @@ OverSaid says (over.Lost seat why) = SaidEnded says.ended seat ended_why.Lost ×
 OverSaid says (over.Ended seat why) = CauseEndedSaid says.ended seat why
 OverSaid says (over.Foreign seat) = SaidEnded says.ended seat ended_why.Foreign
 
--- the same of a turn that is the last
+-- the same right after a turn
 abbrev pub TurnSaid : Says → Turn → Type 0
-TurnSaid says (turn.GoesOn stage) = Unit {0}
-TurnSaid says (turn.Waits seat) = Unit {0}
-TurnSaid says (turn.Lost seat) = SaidEnded says.ended seat ended_why.Lost
-TurnSaid says (turn.Over over) = OverSaid says over
+TurnSaid says (standing.Ready at) = Unit {0}
+TurnSaid says (standing.Waits seat) = Unit {0}
+TurnSaid says (standing.Lost seat) = SaidEnded says.ended seat ended_why.Lost
+TurnSaid says (standing.Over over) = OverSaid says over

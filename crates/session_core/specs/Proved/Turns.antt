@@ -21,7 +21,7 @@ use Rattle.session_core.specs.declared.stage.Stage.TheVariants as stage
 use Rattle.session_core.specs.declared.stage.LeaveCause.{LeaveCause}
 use Rattle.session_core.specs.declared.stage.LeaveCause.TheVariants as why
 use Rattle.session_core.specs.declared.stage.Over.TheVariants as over
-use Rattle.session_core.specs.declared.stage.Turn.TheVariants as turn
+use Rattle.session_core.specs.declared.stage.Standing.TheVariants as standing
 use Rattle.session_core.specs.Refusals.{AreSaid}
 use Rattle.call_types.specs.declared.outcome.Outcome.{Outcome}
 use Rattle.call_types.specs.declared.outcome.Outcome.TheVariants as outcome
@@ -110,10 +110,10 @@ pub record IsGivenUp (base : Option (List ℕ)) (requests : List Request) (o : O
 
 -- what came of the next request
 abbrev pub TurnBy : Option (List ℕ) → List Request → Request → OutputState → Turn → Type 0
-TurnBy base handled next o (turn.GoesOn stage) = Holds base o × IsTalking (handled ++ next ∷ []) o.answers stage
-TurnBy base handled next o (turn.Waits seat) = WaitsIn base handled next o seat
-TurnBy base handled next o (turn.Lost seat) = IsGivenUp base (handled ++ next ∷ []) o seat
-TurnBy base handled next o (turn.Over over) = OverBy base handled next o over
+TurnBy base handled next o (standing.Ready stage) = Holds base o × IsTalking (handled ++ next ∷ []) o.answers stage
+TurnBy base handled next o (standing.Waits seat) = WaitsIn base handled next o seat
+TurnBy base handled next o (standing.Lost seat) = IsGivenUp base (handled ++ next ∷ []) o seat
+TurnBy base handled next o (standing.Over over) = OverBy base handled next o over
 
 -- a request is taken up
 abbrev pub TakesUp : Stage → Request → OutputState → OutputState → Turn → Type 0
@@ -146,10 +146,10 @@ GivesUp ended old new found =
 
 -- what is answered of the process of this seat, which has ended in the call that it waited in
 abbrev pub TellsWhy : SeatState → Why → OutputState → OutputState → Turn → Type 0
-TellsWhy spent ended_why.NoMemory old new (turn.Over (over.Ended seat why)) = PutsGivenUp old new refusal.NoMemory why × (seat ≡ spent)
-TellsWhy spent ended_why.RunFull old new (turn.Over (over.Ended seat why)) = PutsGivenUp old new refusal.RunFull why × (seat ≡ spent)
-TellsWhy spent ended_why.Lost old new (turn.Lost seat) = (new ≡ old) × (seat ≡ spent)
-TellsWhy spent ended_why.Foreign old new (turn.Over (over.Foreign seat)) = (new ≡ old) × (seat ≡ spent)
+TellsWhy spent ended_why.NoMemory old new (standing.Over (over.Ended seat why)) = PutsGivenUp old new refusal.NoMemory why × (seat ≡ spent)
+TellsWhy spent ended_why.RunFull old new (standing.Over (over.Ended seat why)) = PutsGivenUp old new refusal.RunFull why × (seat ≡ spent)
+TellsWhy spent ended_why.Lost old new (standing.Lost seat) = (new ≡ old) × (seat ≡ spent)
+TellsWhy spent ended_why.Foreign old new (standing.Over (over.Foreign seat)) = (new ≡ old) × (seat ≡ spent)
 TellsWhy spent other old new found = ⊥
 
 -- requests are taken up: each refusal is said still

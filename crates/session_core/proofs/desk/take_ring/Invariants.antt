@@ -2,7 +2,6 @@
 use Rattle.std.proofs.Common.{ℕ, List, Option}
 use Rattle.rtrb.specs.Ring.{received, SameConsumer}
 use Rattle.session_core.specs.Proved.Desk.{IsReady}
-use Rattle.session_core.specs.Refusals.{RefusalSaid}
 use Rattle.run_history.specs.Fronts.{Grows, Since}
 use Rattle.session_core.proofs.desk.take_ring.Given as goal
 
@@ -10,5 +9,5 @@ abbrev pub invariant-loop : goal.invariant-loop
 invariant-loop g l = record {
   ring : SameConsumer l.fn.consumer l.consumer;
   grows : Grows l.fn.front l.front;
-  stands : Since l.front (λ h. (base : Option (List ℕ)) → IsReady (RefusalSaid (g.K.Kernel.says h)) base (received l.fn.consumer) l.fn.output l.fn.stage → IsReady (RefusalSaid (g.K.Kernel.says h)) base (received l.consumer) l.output l.stage);
+  stands : Since l.front (λ h. (base : Option (List ℕ)) → IsReady (g.K.Kernel.says h) base (received l.fn.consumer) l.fn.output l.fn.stage → IsReady (g.K.Kernel.says h) base (received l.consumer) l.output l.stage);
 }

@@ -2,7 +2,7 @@ use Rattle.std.proofs.Common.{ℕ, List, Option, Some, sym, subst, ap, ◌∙◌
 use Rattle.session_core.specs.declared.end.End.TheVariants as end
 use Rattle.session_core.specs.Refusals.{ServesUnder}
 use Rattle.session_core.specs.OutputState.{OutputState}
-use Rattle.session_core.specs.Proved.Settling.{unserved_by}
+use Rattle.session_core.specs.Proved.Together.{unserved_by}
 use Rattle.session_core.proofs.ServeLemmas as laws
 use Rattle.session_core.proofs.serve.serve.Goals as goal
 

@@ -22,16 +22,16 @@ pub returns-in-Ok-clause-serves : goal.returns-in-Ok-clause-serves
 returns-in-Ok-clause-serves g c h p =
     let fresh = laws.fresh_ring c.args.producer c.requires.fresh.1 c.requires.room in
     let pumps = laws.pumps_of (g.R.Read.remaining c.args.reader) _ c.args.producer _ c.join.result c.in-Ok.ensures.promised.0 c.in-Ok.ensures.promised.1 c.join.ensures.1 in
-    laws.served (g.K.Kernel.says h) g.G.Gate.is_open (g.R.Read.remaining c.args.reader) g.D.Naming.base c.args.producer c.join.result c.leave_rest.result.0 fresh pumps (c.leave_rest.ensures.settles h p)
+    laws.served (g.K.Kernel.says h) g.G.Gate.is_open (g.R.Read.remaining c.args.reader) g.D.Naming.base c.args.producer c.join.result c.put_together.result.0 fresh pumps (c.put_together.ensures.together h p)
 
 pub returns-in-Ok-clause-given_up : goal.returns-in-Ok-clause-given_up
 returns-in-Ok-clause-given_up g c h p =
     let fresh = laws.fresh_ring c.args.producer c.requires.fresh.1 c.requires.room in
     let pumps = laws.pumps_of (g.R.Read.remaining c.args.reader) _ c.args.producer _ c.join.result c.in-Ok.ensures.promised.0 c.in-Ok.ensures.promised.1 c.join.ensures.1 in
-    laws.given_up (g.K.Kernel.says h) g.G.Gate.is_open (g.R.Read.remaining c.args.reader) g.D.Naming.base c.args.producer c.join.result c.leave_rest.result.0 fresh pumps (c.leave_rest.ensures.settles h p)
+    laws.given_up (g.K.Kernel.says h) g.G.Gate.is_open (g.R.Read.remaining c.args.reader) g.D.Naming.base c.args.producer c.join.result c.put_together.result.0 fresh pumps (c.put_together.ensures.together h p)
 
 pub returns-in-Ok-clause-starts : goal.returns-in-Ok-clause-starts
-returns-in-Ok-clause-starts g c = c.in-Ok.ensures.started ∙ sym (laws.started (g.K.Kernel.says c.leave_rest.result.1) g.G.Gate.is_open g.D.Naming.base c.join.result c.leave_rest.result.0 (g.T.Starter.failures c.args.starter.now) (c.leave_rest.ensures.settles c.leave_rest.result.1 ([], append-nil c.leave_rest.result.1)))
+returns-in-Ok-clause-starts g c = c.in-Ok.ensures.started ∙ sym (laws.started (g.K.Kernel.says c.put_together.result.1) g.G.Gate.is_open g.D.Naming.base c.join.result c.put_together.result.0 (g.T.Starter.failures c.args.starter.now) (c.put_together.ensures.together c.put_together.result.1 ([], append-nil c.put_together.result.1)))
 
 pub returns-in-Ok-clause-said : goal.returns-in-Ok-clause-said
-returns-in-Ok-clause-said g c h p = laws.end_said (g.K.Kernel.says h) g.G.Gate.is_open g.D.Naming.base c.join.result c.leave_rest.result.0 (c.leave_rest.ensures.settles h p)
+returns-in-Ok-clause-said g c h p = laws.end_said (g.K.Kernel.says h) g.G.Gate.is_open g.D.Naming.base c.join.result c.put_together.result.0 (c.put_together.ensures.together h p)

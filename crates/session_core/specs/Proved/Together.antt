@@ -27,7 +27,7 @@ why_of pump_end.NoMemory = why.NoMemory
 why_of pump_end.Ahead = why.Ahead
 
 -- a session whose pump came to this is put together: it is left, and its writer held this at the start
-pub record Settles (says : Says) (always : Bool) (base : Option (List ℕ)) (p : PumpState) (s : SessionState) : Type 0 where
+pub record IsPutTogether (says : Says) (always : Bool) (base : Option (List ℕ)) (p : PumpState) (s : SessionState) : Type 0 where
   pub o : OutputState
   pub left : LeftSession
   pub ending : IsEnding says base (sent p.producer) (why_of p.end_is) o left

@@ -1,61 +1,55 @@
-use Rattle.std.proofs.Common.{ℕ, None, Some, refl, sym, subst}
+use Rattle.std.proofs.Common.{ℕ, None, Some, sym, subst}
 use Rattle.session_core.specs.declared.end.End.TheVariants as end
-use Rattle.session_core.specs.declared.stage.Over.TheVariants as over
 use Rattle.session_core.specs.declared.stage.LeaveCause.TheVariants as why
-use Rattle.session_core.specs.Stages.{Over}
-use Rattle.session_core.specs.Proved.Closing.{ClosesBy, LeavesWith, MayClose}
+use Rattle.session_core.specs.Proved.Closing.{LeavesWith, MayClose}
 use Rattle.session_core.proofs.SaidLemmas.{keeps_left, leaves_said, ended_said, closed_said, foreign_said, lost_said}
 use Rattle.session_core.proofs.CutLemmas.{hung_up_closes, leaves_closes, seat_closes, unwritten_closes}
 use Rattle.session_core.proofs.ClosingLemmas as laws
-use Rattle.session_core.proofs.closing.leave_all.Goals as goal
+use Rattle.session_core.proofs.closing.close_session.Goals as goal
 
 pub returns-in-Leaves-clause-all : goal.returns-in-Leaves-clause-all
 returns-in-Leaves-clause-all g c =
-    laws.left_as c.args.output.now c.send_last-end.new.output c.args.over (over.Leaves c.in-Leaves.stage c.in-Leaves.why) c.leave.result c.leave.result c.in-Leaves.is refl
-    (laws.leaves c.args.output.now c.send_last-end.new.output c.in-Leaves.stage c.in-Leaves.why c.send_last-end.result c.leave.result c.send_last-end.ensures c.leave.ensures.seat c.leave.ensures.last)
+    rw c.in-Leaves.is (laws.leaves c.args.output.now c.send_last-end.new.output c.in-Leaves.stage c.in-Leaves.why c.send_last-end.result c.hang_up_stage.result
+    c.send_last-end.ensures c.hang_up_stage.ensures.seat c.hang_up_stage.ensures.last)
 
 pub returns-in-Unwritten-clause-all : goal.returns-in-Unwritten-clause-all
 returns-in-Unwritten-clause-all g c =
-    let left = subst (λ (n : ℕ). LeavesWith c.in-Unwritten.stage (end.WriteFault n) c.leave-in-Unwritten.result.seat c.leave-in-Unwritten.result.end) c.sent.ensures c.leave-in-Unwritten.ensures.seat in
-    laws.left_as c.args.output.now c.args.output.now c.args.over (over.Unwritten c.in-Unwritten.stage) c.leave-in-Unwritten.result c.leave-in-Unwritten.result c.in-Unwritten.is refl
-    (laws.unwritten c.args.output.now c.in-Unwritten.stage c.leave-in-Unwritten.result left c.leave-in-Unwritten.ensures.last)
+    let left = c.hang_up_stage-in-Unwritten.result in
+    let leaves = subst (λ (n : ℕ). LeavesWith c.in-Unwritten.stage (end.WriteFault n) left.seat left.end) c.sent.ensures c.hang_up_stage-in-Unwritten.ensures.seat in
+    rw c.in-Unwritten.is (laws.unwritten c.args.output.now c.in-Unwritten.stage left leaves c.hang_up_stage-in-Unwritten.ensures.last)
 
 pub returns-in-OpeningUntold-clause-all : goal.returns-in-OpeningUntold-clause-all
 returns-in-OpeningUntold-clause-all g c =
-    laws.left_as c.args.output.now c.args.output.now c.args.over (over.OpeningUntold c.in-OpeningUntold.seat) c.left_by.result _ c.in-OpeningUntold.is c.left_by.ensures
+    rw (c.in-OpeningUntold.is, c.left_by.ensures)
     (laws.opening_untold c.args.output.now c.in-OpeningUntold.seat c.hang_up.result.0 c.hang_up.result.1 c.hang_up.ensures.hangs_up)
 
 pub returns-in-Untold-clause-all : goal.returns-in-Untold-clause-all
-returns-in-Untold-clause-all g c =
-    laws.left_as c.args.output.now c.leave_untold.new.output c.args.over (over.Untold c.in-Untold.seat c.in-Untold.receipt) c.leave_untold.result c.leave_untold.result c.in-Untold.is refl c.leave_untold.ensures.all
+returns-in-Untold-clause-all g c = rw c.in-Untold.is c.close_untold.ensures.all
 
 pub returns-in-Refused-clause-all : goal.returns-in-Refused-clause-all
 returns-in-Refused-clause-all g c =
-    laws.left_as c.args.output.now c.send_last-end-in-Refused.new.output c.args.over (over.Refused c.in-Refused.seat) c.left_by-in-Refused.result _ c.in-Refused.is c.left_by-in-Refused.ensures
-    (laws.refused c.args.output.now c.send_last-end-in-Refused.new.output c.in-Refused.seat c.send_last-end-in-Refused.result c.send_last-end-in-Refused.ensures)
+    let sent = c.send_last-end-in-Refused in
+    rw (c.in-Refused.is, c.left_by-in-Refused.ensures) (laws.refused c.args.output.now sent.new.output c.in-Refused.seat sent.result sent.ensures)
 
 pub returns-in-Lost-clause-all : goal.returns-in-Lost-clause-all
 returns-in-Lost-clause-all g c =
-    laws.left_as c.args.output.now c.send_last-end-in-Lost.new.output c.args.over (over.Lost c.in-Lost.seat c.in-Lost.why) c.left_by-in-Lost.result _ c.in-Lost.is c.left_by-in-Lost.ensures
-    (laws.lost c.args.output.now c.send_last-end-in-Lost.new.output c.in-Lost.seat c.in-Lost.why c.send_last-end-in-Lost.result c.send_last-end-in-Lost.ensures)
+    let sent = c.send_last-end-in-Lost in
+    rw (c.in-Lost.is, c.left_by-in-Lost.ensures) (laws.lost c.args.output.now sent.new.output c.in-Lost.seat c.in-Lost.why sent.result sent.ensures)
 
 pub returns-in-Ended-clause-all : goal.returns-in-Ended-clause-all
 returns-in-Ended-clause-all g c =
-    laws.left_as c.args.output.now c.send_last-end-in-Ended.new.output c.args.over (over.Ended c.in-Ended.seat c.in-Ended.why) c.left_by-in-Ended.result _ c.in-Ended.is c.left_by-in-Ended.ensures
-    (laws.ended c.args.output.now c.send_last-end-in-Ended.new.output c.in-Ended.seat c.in-Ended.why c.send_last-end-in-Ended.result c.send_last-end-in-Ended.ensures)
+    let sent = c.send_last-end-in-Ended in
+    rw (c.in-Ended.is, c.left_by-in-Ended.ensures) (laws.ended c.args.output.now sent.new.output c.in-Ended.seat c.in-Ended.why sent.result sent.ensures)
 
 pub returns-in-Foreign-clause-all : goal.returns-in-Foreign-clause-all
-returns-in-Foreign-clause-all g c =
-    laws.left_as c.args.output.now c.args.output.now c.args.over (over.Foreign c.in-Foreign.seat) c.left_by-in-Foreign.result _ c.in-Foreign.is c.left_by-in-Foreign.ensures
-    (laws.foreign c.args.output.now c.in-Foreign.seat)
+returns-in-Foreign-clause-all g c = rw (c.in-Foreign.is, c.left_by-in-Foreign.ensures) (laws.foreign c.args.output.now c.in-Foreign.seat)
 
 pub returns-in-RefusalUntold-clause-all : goal.returns-in-RefusalUntold-clause-all
 returns-in-RefusalUntold-clause-all g c =
-    laws.left_as c.args.output.now c.args.output.now c.args.over (over.RefusalUntold c.in-RefusalUntold.seat) c.left_by-in-RefusalUntold.result _ c.in-RefusalUntold.is c.left_by-in-RefusalUntold.ensures
-    (laws.refusal_untold c.args.output.now c.in-RefusalUntold.seat)
+    rw (c.in-RefusalUntold.is, c.left_by-in-RefusalUntold.ensures) (laws.refusal_untold c.args.output.now c.in-RefusalUntold.seat)
 
 pub returns-in-Leaves-clause-said : goal.returns-in-Leaves-clause-said
-returns-in-Leaves-clause-said g c h p = λ said. (c.leave.ensures.said h p) (leaves_said (g.K.Kernel.says h) None _ _ c.args.over c.in-Leaves.stage c.in-Leaves.why c.send_last-end.result c.in-Leaves.is c.send_last-end.ensures said)
+returns-in-Leaves-clause-said g c h p = λ said. (c.hang_up_stage.ensures.said h p) (leaves_said (g.K.Kernel.says h) None _ _ c.args.over c.in-Leaves.stage c.in-Leaves.why c.send_last-end.result c.in-Leaves.is c.send_last-end.ensures said)
 
 pub returns-in-Refused-clause-said : goal.returns-in-Refused-clause-said
 returns-in-Refused-clause-said g c h p = λ said. rw c.left_by-in-Refused.ensures (closed_said (g.K.Kernel.says h) (Some c.in-Refused.seat) _ _ c.send_last-end-in-Refused.result c.send_last-end-in-Refused.ensures)
@@ -70,15 +64,15 @@ pub returns-in-Foreign-clause-said : goal.returns-in-Foreign-clause-said
 returns-in-Foreign-clause-said g c h p = λ said. rw c.left_by-in-Foreign.ensures (foreign_said (g.K.Kernel.says h) c.args.over c.in-Foreign.seat c.in-Foreign.is said)
 
 pub returns-in-Leaves-clause-seat : goal.returns-in-Leaves-clause-seat
-returns-in-Leaves-clause-seat g c = keeps_left c.args.over c.in-Leaves.stage c.in-Leaves.why c.send_last-end.result c.leave.result c.in-Leaves.is c.leave.ensures.seat
+returns-in-Leaves-clause-seat g c = keeps_left c.args.over c.in-Leaves.stage c.in-Leaves.why c.send_last-end.result c.hang_up_stage.result c.in-Leaves.is c.hang_up_stage.ensures.seat
 
 pub returns-in-Leaves-clause-closes : goal.returns-in-Leaves-clause-closes
 returns-in-Leaves-clause-closes g c =
-    leaves_closes c.args.over c.args.output.now c.send_last-end.new.output c.in-Leaves.stage c.in-Leaves.why c.send_last-end.result c.leave.result c.in-Leaves.is c.send_last-end.ensures c.leave.ensures.seat c.leave.ensures.last
+    leaves_closes c.args.over c.args.output.now c.send_last-end.new.output c.in-Leaves.stage c.in-Leaves.why c.send_last-end.result c.hang_up_stage.result c.in-Leaves.is c.send_last-end.ensures c.hang_up_stage.ensures.seat c.hang_up_stage.ensures.last
 
 pub returns-in-Unwritten-clause-closes : goal.returns-in-Unwritten-clause-closes
 returns-in-Unwritten-clause-closes g c =
-    unwritten_closes c.args.over c.args.output.now c.in-Unwritten.stage c.sent.result c.leave-in-Unwritten.result c.leave-in-Unwritten.ensures.seat c.leave-in-Unwritten.ensures.last
+    unwritten_closes c.args.over c.args.output.now c.in-Unwritten.stage c.sent.result c.hang_up_stage-in-Unwritten.result c.hang_up_stage-in-Unwritten.ensures.seat c.hang_up_stage-in-Unwritten.ensures.last
 
 pub returns-in-OpeningUntold-clause-closes : goal.returns-in-OpeningUntold-clause-closes
 returns-in-OpeningUntold-clause-closes g c =
@@ -88,8 +82,7 @@ pub returns-in-RefusalUntold-clause-closes : goal.returns-in-RefusalUntold-claus
 returns-in-RefusalUntold-clause-closes g c = rw c.left_by-in-RefusalUntold.ensures tt
 
 pub returns-in-Untold-clause-closes : goal.returns-in-Untold-clause-closes
-returns-in-Untold-clause-closes g c =
-    subst (λ (o : Over). ClosesBy o c.args.output.now c.leave_untold.new.output c.leave_untold.result) (sym c.in-Untold.is) c.leave_untold.ensures.closes
+returns-in-Untold-clause-closes g c = rw c.in-Untold.is c.close_untold.ensures.closes
 
 pub returns-in-Refused-clause-closes : goal.returns-in-Refused-clause-closes
 returns-in-Refused-clause-closes g c =
@@ -122,10 +115,10 @@ pub returns-in-Ended-clause-answers : goal.returns-in-Ended-clause-answers
 returns-in-Ended-clause-answers g c = laws.answers_sent c.args.output.now c.send_last-end-in-Ended.new.output c.in-Ended.why c.send_last-end-in-Ended.result c.send_last-end-in-Ended.ensures
 
 pub returns-in-Unwritten-clause-said : goal.returns-in-Unwritten-clause-said
-returns-in-Unwritten-clause-said g c h p said = c.leave-in-Unwritten.ensures.said h p tt
+returns-in-Unwritten-clause-said g c h p said = c.hang_up_stage-in-Unwritten.ensures.said h p tt
 
 pub returns-in-OpeningUntold-clause-said : goal.returns-in-OpeningUntold-clause-said
 returns-in-OpeningUntold-clause-said g c h p said = rw c.left_by.ensures (c.hang_up.ensures.said h p tt)
 
 pub returns-in-Untold-clause-said : goal.returns-in-Untold-clause-said
-returns-in-Untold-clause-said g c h p said = c.leave_untold.ensures.said h p
+returns-in-Untold-clause-said g c h p said = c.close_untold.ensures.said h p
