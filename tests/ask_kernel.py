@@ -344,6 +344,24 @@ def question_marks_fit(bench: Bench) -> None:
         differs_nowhere(asked, random_lines(SEED, number, 60, "full-pipes"))
 
 
+NONBLOCK = b"p0 setfl 1 -,nonblock\n"
+
+
+@case("a small write in part", NONBLOCK, "61*100", "error EAGAIN", "24")
+@case("a small write of nothing", NONBLOCK, "61*100", "error EAGAIN", "0")
+@case("a write of more than was asked for", NONBLOCK, "61*600", "24", "601")
+@case("no room for a write that may wait", b"", "61*100", "parked 0", "error EAGAIN")
+@case("a write that may wait, in part", b"", "61*600", "parked ?", "24")
+def write_is_wrong(bench: Bench, calls: bytes, data: str, answer: str, wrong: str) -> None:
+    """An answer to a write that no room of a pipe explains is told without a reason."""
+    settled = [sys.executable, str(STAND_INS / "settled_driver.py")]
+    driver = f"{shlex.join(settled)} | sed 's/^\\([0-9]* p0 write 1 {re.escape(data)}\\) = {answer}$/\\1 = {wrong}/'"
+    lines = lines_of(b"join\np0 pipe\n" + calls + b"p0 write 1 61*1000\np0 write 1 %s\n" % data.encode())
+    result = compare.checked(Asked([bench.program], ["sh", "-c", driver]), lines)
+    found = result.unexplained
+    require(found and (found.system, found.act.word) == (wrong, "write"), f"{found and compare.told(found)}")
+
+
 @case("pipes of as many bytes as on Linux")
 def full_pipes_are_compared(bench: Bench) -> None:
     """Where pipes have the same room, nothing differs by that but what follows from pages that are not full."""

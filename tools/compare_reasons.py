@@ -171,14 +171,32 @@ def is_offset_and_count(it: Difference) -> bool:
     return it.count() > 0 and it.start(it.at) + it.count() > OFFSET_MAX
 
 
+def may_give(it: Difference, outcome: str) -> bool:
+    """Whether a write of some bytes to a pipe may give this, by its page, whatever room there is.
+
+    At most PIPE_BUF bytes go in whole or not at all. Under nonblock no write waits, and of more bytes those go in that
+    fit: some of them, or PIPE_BUF where the pipe is empty. Without it no write is EAGAIN, and one that comes back has
+    written all, but where no reader is left: fdref gives a part then, too.
+    """
+    assert it.at and it.at.pipe
+    whole, held, waits = it.count(), len(it.at.pipe.data), not it.at.nonblock
+    has_parts = whole > PIPE_BUF and (not waits or (it.fdref.isdigit() and int(it.fdref) < whole))
+    if outcome.isdigit():
+        least = PIPE_BUF if not waits and not held else 1
+        return (least if has_parts else whole) <= int(outcome) <= whole
+    if outcome.startswith("parked "):
+        return waits and (outcome == "parked ?" or moved(outcome) < (whole if whole > PIPE_BUF else 1))
+    return outcome == "error EAGAIN" and held > 0 and not waits
+
+
 def is_room(it: Difference) -> bool:
     """A write to a pipe that has more room on the system than in the profile, or less."""
     if not it.words("write") or not it.at or not it.at.pipe:
         return False
     whole, held = it.count(), len(it.at.pipe.data)
-    are_moved = all(is_moved(outcome) for outcome in (it.system, it.fdref))
     is_less = it.system != str(whole) and held + whole > PIPE_BUF
-    return are_moved and (held + whole > it.at.pipe.capacity or is_less)
+    has_other_room = held + whole > it.at.pipe.capacity or is_less
+    return has_other_room and is_moved(it.fdref) and may_give(it, it.system)
 
 
 def is_paged_room(it: Difference) -> bool:
@@ -190,7 +208,7 @@ def is_paged_room(it: Difference) -> bool:
     """
     if not it.words("write") or not it.at or not it.at.pipe or it.at.pipe.capacity % PAGE:
         return False
-    if not is_moved(it.system) or not is_moved(it.fdref):
+    if not may_give(it, it.system) or not is_moved(it.fdref):
         return False
     held, fdref = len(it.at.pipe.data), moved(it.fdref)
     # how many bytes of a large write have gone in is not seen on the system while it waits

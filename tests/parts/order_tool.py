@@ -141,6 +141,34 @@ UNCHOSEN = [
         "page of read: a pipe or FIFO",
     ),
 ]
+# Writes to a pipe that no room explains: a part of a small one, one that is EAGAIN without nonblock, one that came back
+# too early, one that waits under nonblock, more than was asked for, and a large one into an empty pipe.
+WRITE = "page of write: a pipe or FIFO"
+HELD = f"{PIPED}4 5 p0 write 1 61*1000 = 1000\n"
+HELD_NONBLOCK = f"{PIPED}4 5 p0 setfl 1 -,nonblock = ok\n6 7 p0 write 1 61*1000 = 1000\n"
+ONE_LEFT = f"{NONBLOCK}8 9 p0 write 1 61*535 = 535\n"
+NONE_LEFT = f"{ONE_LEFT}10 11 p0 write 1 x61 = 1\n"
+FULL = "error EAGAIN, where a pipe has room for 65,536 bytes"
+UNROOMY = [
+    (ONE_LEFT, "20 21 p0 write 1 x6262 = 1", FULL),
+    (NONE_LEFT, "20 21 p0 write 1 x62 = 0", FULL),
+    (f"{NONE_LEFT}12 13 p0 read 0 300 = 61*300\n", "20 21 p0 write 1 61*512 = 300", FULL),
+    (HELD_NONBLOCK, "20 21 p0 write 1 61*100 = 50", "error EAGAIN"),
+    (HELD_NONBLOCK, "20 21 p0 write 1 61*512 = 24", "error EAGAIN"),
+    (HELD_NONBLOCK, "20 21 p0 write 1 61*600 = 601", "24"),
+    (HELD_NONBLOCK, "20 21 p0 write 1 61*600 = 0", "24"),
+    (HELD, "20 21 p0 write 1 61*100 = error EAGAIN", "parked 0"),
+    (HELD, "20 21 p0 write 1 61*600 = error EAGAIN", "parked 24"),
+    (HELD, "20 21 p0 write 1 61*600 = 24", "parked 24"),
+    (f"{PIPED}4 5 p0 setfl 1 -,nonblock = ok\n", "20 21 p0 write 1 61*2000 = 511", "1024"),
+]
+# Writes to a pipe with less room than in fdref, which is asked with more.
+LESS_ROOM = [
+    (HELD_NONBLOCK, "20 21 p0 write 1 61*20 = error EAGAIN", "20"),
+    (HELD_NONBLOCK, "20 21 p0 write 1 61*600 = 1", "600"),
+    (f"{PIPED}4 5 p0 setfl 1 -,nonblock = ok\n", "20 21 p0 write 1 61*2000 = 512", "2000"),
+    (HELD, "20 - p0 write 1 61*20 = parked ?", "20"),
+]
 # Calls that overlap, and what is told last of them.
 FORKED = f"{FILED}4 5 p0 fork = 1\n6 7 p1 attach = ok\n"
 OVERLAPPING = [
@@ -165,9 +193,12 @@ def ends_so(program: str, text: str, status: int, end: str) -> None:
 
 def reason_cases(program: str) -> Iterator[Case]:
     """Histories that no order explains, each with its reason, or with what fdref answers."""
-    for before, call, answer, reason in CHOICES:
+    room = "room of a pipe (own; page of write)"
+    roomy = "where a pipe has room for 65,536 bytes"
+    less = [(before, call, f"{answer}, {roomy}", room) for before, call, answer in LESS_ROOM]
+    for before, call, answer, reason in [*CHOICES, *less]:
         yield f"a choice: {call}", partial(prints, program, f"{before}{call}\n", 0, chosen(call, answer, reason))
-    for before, call, answer, end in UNCHOSEN:
+    for before, call, answer, end in [*UNCHOSEN, *((*it, WRITE) for it in UNROOMY)]:
         lines = f"  {call}\nfdref answers {answer}\n{end}"
         yield f"no choice: {call}", partial(ends_so, program, f"{before}{call}\n", 1, lines)
     for before, calls, end in OVERLAPPING:
