@@ -84,7 +84,7 @@ class Difference:
     def is_settled(self) -> bool:
         """Whether system and fdref are in the same state after it, so that the run can go on."""
         is_look = self.words("fstat", "getfl") and not follows_append(self)
-        return self.are_errors() or is_look or self.system == "not asked"
+        return self.are_errors() or is_look or is_unchecked(self) or self.system == "not asked"
 
 
 def process_of(world: plain_model.World, act: plain_model.Act) -> plain_model.Process | None:
@@ -275,10 +275,29 @@ def is_count(it: Difference) -> bool:
     return is_asked and (it.succeeds() or it.system in ("error EFBIG", "error EPIPE", "error EAGAIN"))
 
 
+def is_of_nothing(it: Difference) -> bool:
+    """Whether it is a read or write of no bytes."""
+    return it.words("read", "pread", "write", "pwrite") and it.count() == 0
+
+
 def is_write_of_nothing(it: Difference) -> bool:
-    """A write of no bytes to a pipe that a system refuses as one of some bytes."""
-    is_asked = it.words("write") and it.at is not None and it.at.pipe is not None and it.count() == 0
-    return is_asked and it.gives("0") and it.system in ("error EPIPE", "error EAGAIN")
+    """A write of no bytes to a pipe, of which nothing is specified but that it writes none."""
+    is_asked = is_of_nothing(it) and it.words("write", "pwrite") and it.at is not None and it.at.pipe is not None
+    is_parked = it.words("write") and it.system.startswith("parked ")
+    return is_asked and (is_parked or it.system == "0" or it.system.startswith("error "))
+
+
+def is_unchecked(it: Difference) -> bool:
+    """A call of no bytes for which a system looks for no errors, or for one more that is due: EAGAIN of an empty pipe.
+
+    Of writes that is said of regular files alone, and of pipes nothing. Where the descriptor is not open there is none.
+    """
+    if not is_of_nothing(it):
+        return False
+    if it.system == "error EAGAIN":
+        pipe = it.at.pipe if it.at and it.at.nonblock and it.words("read") and it.gives("x") else None
+        return pipe is not None and not pipe.data and it.world.has_end(pipe, "w")
+    return it.fdref.startswith("error ") and it.system == ("x" if it.words("read", "pread") else "0")
 
 
 def is_full(it: Difference) -> bool:
@@ -310,6 +329,7 @@ REASONS = [
     Reason("order of refusals, where several are due", OWN, "XSH 2.3", is_order),
     Reason("nonblock set while a write waits", OWN, "pages of fcntl and write", is_set_while_it_waits),
     Reason("a write of no bytes to a pipe", OWN, "page of write", is_write_of_nothing),
+    Reason("errors of a call of no bytes", OWN, "pages of read and write", is_unchecked),
     Reason("room of a pipe that is counted in pages", OWN, "page of write", is_paged_room),
     Reason("room of a pipe", OWN, "page of write", is_room),
     Reason("size and links of a pipe in fstat", OWN, "page of fstat", is_stat_of_pipe),

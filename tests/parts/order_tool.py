@@ -169,6 +169,37 @@ LESS_ROOM = [
     (f"{PIPED}4 5 p0 setfl 1 -,nonblock = ok\n", "20 21 p0 write 1 61*2000 = 512", "2000"),
     (HELD, "20 - p0 write 1 61*20 = parked ?", "20"),
 ]
+# Calls of no bytes: errors that are not looked for, EAGAIN of an empty pipe, and a write to a pipe, after which nothing
+# is known.
+READ_ONLY, WRITE_ONLY = (f"{JOINED}2 3 p0 open a {mode},creat = 0\n" for mode in "rw")
+DRY = f"{PIPED}4 5 p0 setfl 0 -,nonblock = ok\n"
+NOTHING = "errors of a call of no bytes (own; pages of read and write)"
+NO_BYTES = [
+    (JOINED, "20 21 p0 read 7 0 = x", "error EBADF", NOTHING),
+    (WRITE_ONLY, "20 21 p0 read 0 0 = x", "error EBADF", NOTHING),
+    (PIPED, "20 21 p0 pread 0 -1 0 = x", "error ESPIPE", NOTHING),
+    (JOINED, "20 21 p0 write 7 x = 0", "error EBADF", NOTHING),
+    (READ_ONLY, "20 21 p0 write 0 x = 0", "error EBADF", NOTHING),
+    (FILED, "20 21 p0 pwrite 0 -1 x = 0", "error EINVAL", NOTHING),
+    (DRY, "20 21 p0 read 0 0 = error EAGAIN", "x", NOTHING),
+    (PIPED, "20 21 p0 write 0 x = 0", "error EBADF", "a write of no bytes to a pipe (own; page of write)"),
+    (HELD, "20 - p0 write 1 x = parked ?", "0", "a write of no bytes to a pipe (own; page of write)"),
+]
+# The nearest of them that no page leaves open.
+SOME_BYTES = [
+    (JOINED, "20 21 p0 read 7 0 = x61", "error EBADF"),
+    (WRITE_ONLY, "20 21 p0 read 0 1 = x", "error EBADF"),
+    (WRITE_ONLY, "20 21 p0 write 0 x = error EAGAIN", "0"),
+    (JOINED, "20 21 p0 write 7 x = 1", "error EBADF"),
+    (READ_ONLY, "20 21 p0 write 0 x61 = 0", "error EBADF"),
+    (FILED, "20 21 p0 pwrite 0 -1 x = error ESPIPE", "error EINVAL"),
+    (FILED, "20 21 p0 read 0 0 = error EAGAIN", "x"),
+    (DRY, "20 21 p0 pread 0 0 0 = error EAGAIN", "error ESPIPE"),
+    (PIPED, "20 21 p0 read 0 0 = error EAGAIN", "x"),
+    (f"{DRY}6 7 p0 write 1 x61 = 1\n", "20 21 p0 read 0 0 = error EAGAIN", "x"),
+    (f"{DRY}6 7 p0 close 1 = ok\n", "20 21 p0 read 0 0 = error EAGAIN", "x"),
+    (HELD, "20 21 p0 write 1 x = 1", "0"),
+]
 # Calls that overlap, and what is told last of them.
 FORKED = f"{FILED}4 5 p0 fork = 1\n6 7 p1 attach = ok\n"
 OVERLAPPING = [
@@ -191,16 +222,28 @@ def ends_so(program: str, text: str, status: int, end: str) -> None:
     require(ran.stdout.decode().endswith(f"\n{end}\n"), ran.said())
 
 
+def is_bare(program: str, text: str, answer: str) -> None:
+    """The tool tells what fdref answers to a call, and no reason."""
+    ran = told(program, text)
+    lines = ran.stdout.decode().splitlines()
+    require(ran.status == 1 and lines[-2] == f"fdref answers {answer}", ran.said())
+    require(not lines[-1].startswith("reason"), ran.said())
+
+
 def reason_cases(program: str) -> Iterator[Case]:
     """Histories that no order explains, each with its reason, or with what fdref answers."""
     room = "room of a pipe (own; page of write)"
     roomy = "where a pipe has room for 65,536 bytes"
     less = [(before, call, f"{answer}, {roomy}", room) for before, call, answer in LESS_ROOM]
-    for before, call, answer, reason in [*CHOICES, *less]:
+    for before, call, answer, reason in [*CHOICES, *less, *NO_BYTES]:
         yield f"a choice: {call}", partial(prints, program, f"{before}{call}\n", 0, chosen(call, answer, reason))
     for before, call, answer, end in [*UNCHOSEN, *((*it, WRITE) for it in UNROOMY)]:
         lines = f"  {call}\nfdref answers {answer}\n{end}"
         yield f"no choice: {call}", partial(ends_so, program, f"{before}{call}\n", 1, lines)
+    for before, call, answer in SOME_BYTES:
+        yield f"no choice: {call}", partial(is_bare, program, f"{before}{call}\n", answer)
+    further = f"{JOINED}2 3 p0 read 7 0 = x\n4 5 p0 close 7 = error EINVAL\n"
+    yield "after a call of no bytes", partial(is_bare, program, further, "error EBADF")
     for before, calls, end in OVERLAPPING:
         yield f"at once: {calls}", partial(ends_so, program, f"{before}{calls}\n", 1, end)
     flags = f"{FILED}4 5 p0 open a r,trunc = 1\n6 7 p0 fstat 1 = regular 0 1\n"
