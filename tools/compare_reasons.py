@@ -150,8 +150,27 @@ def follows_append(it: Difference) -> bool:
 
 
 def is_pwrite_appended(it: Difference) -> bool:
-    """A pwrite that a system appends."""
-    return is_append(it.act, it.at) or follows_append(it)
+    """A pwrite that a system appends: what it gives is what a write at the end gives, and the size is one that follows
+    from that."""
+    if follows_append(it):
+        return is_size_appended(it)
+    if not it.at or not is_append(it.act, it.at) or it.gives("error EINVAL"):
+        return False
+    room = it.world.limits.size - len(it.at.regular.data)
+    return it.system == (str(min(it.count(), room)) if room > 0 or not it.count() else "error EFBIG")
+
+
+def is_size_appended(it: Difference) -> bool:
+    """Whether what an fstat tells may be the size after a pwrite was appended, which in the model is done at its
+    start."""
+    system, fdref = it.system.split(" "), it.fdref.split(" ")
+    if len(system) != 3 or len(fdref) != 3 or (system[0], system[2]) != (fdref[0], fdref[2]):
+        return False
+    _, start, data = plain_model.read_act(act_of(it.lines[it.place - 1]).encode()).fields
+    size, end = int(fdref[1]), start + len(data)
+    # where it made the file longer, the size before it is any up to the one after it
+    least = size if size > end else 0
+    return least + len(data) <= int(system[1]) <= size + len(data)
 
 
 def is_lseek_overflow(it: Difference) -> bool:

@@ -132,6 +132,11 @@ UNCHOSEN = [
     (APPENDED, "8 9 p0 pread 0 0 9 = x6162", "x62", f"reason: {APPEND}"),
     (APPENDED, "8 9 p0 fstat 0 = regular 2 1", "regular 1 1", f"reason: {APPEND}"),
     (APPENDED, "8 9 p0 pread 0 0 9 = x6163", "x62", f"{AT_ONCE} pread"),
+    (APPENDED, "8 9 p0 fstat 0 = regular 3 1", "regular 1 1", f"{AT_ONCE} fstat"),
+    (APPENDED, "8 9 p0 fstat 0 = regular 2 2", "regular 1 1", f"{AT_ONCE} fstat"),
+    (APPENDED, "8 9 p0 pwrite 0 0 x63 = error EBADF", "1", f"{AT_ONCE} pwrite"),
+    (APPENDED, "8 9 p0 pwrite 0 0 x6363 = 1", "2", f"{AT_ONCE} pwrite"),
+    (APPENDED, "8 9 p0 pwrite 0 -1 x63 = 1", "error EINVAL", f"{AT_ONCE} pwrite"),
     # a reason of an earlier call excuses none of a later one
     (f"{PIPED}4 5 p0 fstat 0 = pipe 0 1\n", "6 7 p0 getfl 0 = 2", "1", "page of fcntl: a pipe or FIFO"),
     (
