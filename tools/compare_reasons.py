@@ -109,7 +109,8 @@ def due(it: Difference) -> set[str]:
         errors["EFBIG"] = word == "pwrite" and count > 0 and start >= it.world.limits.size
     elif word == "ftruncate":
         length = fields[1]
-        errors["EINVAL"] = length < 0 or bool(at and (at.pipe or "w" not in at.mode))
+        errors["EINVAL"] = length < 0 or length > it.world.limits.size
+        errors["EINVAL"] |= bool(at and (at.pipe or "w" not in at.mode))
         errors["EFBIG"] = length > it.world.limits.size
     return {error for error, is_due in errors.items() if is_due}
 
@@ -188,6 +189,11 @@ def is_offset_and_count(it: Difference) -> bool:
     if not it.words("read", "pread", "write", "pwrite") or not it.at or it.at.pipe or it.system != "error EINVAL":
         return False
     return it.count() > 0 and it.start(it.at) + it.count() > OFFSET_MAX
+
+
+def is_length_too_large(it: Difference) -> bool:
+    """An ftruncate past the size limit, for which a system has one error and fdref the other."""
+    return it.words("ftruncate") and it.gives("error EFBIG") and it.system == "error EINVAL"
 
 
 def may_give(it: Difference, outcome: str) -> bool:
@@ -345,6 +351,7 @@ REASONS = [
     Reason("lseek past the greatest offset is EINVAL, not EOVERFLOW", SYSTEM, "page of lseek", is_lseek_overflow),
     Reason("lseek past the greatest file of the file system is EINVAL", SYSTEM, "page of lseek", is_lseek_past_files),
     Reason("offset and count pass the greatest offset: EINVAL", SYSTEM, "pages of read and write", is_offset_and_count),
+    Reason("ftruncate past the size limit is EINVAL, not EFBIG", OWN, "page of ftruncate", is_length_too_large),
     Reason("order of refusals, where several are due", OWN, "XSH 2.3", is_order),
     Reason("nonblock set while a write waits", OWN, "pages of fcntl and write", is_set_while_it_waits),
     Reason("a write of no bytes to a pipe", OWN, "page of write", is_write_of_nothing),

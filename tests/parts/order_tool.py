@@ -123,6 +123,11 @@ CHOICES = [
         "room of a pipe that is counted in pages (own; page of write)",
     ),
 ]
+LENGTH = "ftruncate past the size limit is EINVAL, not EFBIG (own; page of ftruncate)"
+CHOICES += [
+    (FILED, f"4 5 p0 ftruncate 0 {2**40 + 1} = error EINVAL", "error EFBIG", LENGTH),
+    (FILED, f"4 5 p0 ftruncate 7 {2**40 + 1} = error EINVAL", "error EBADF", REFUSALS),
+]
 # What differs of one call after another without being such a choice, what fdref answers, and what is told of it.
 APPENDED = f"{JOINED}2 3 p0 open a rw,creat,append = 0\n4 5 p0 pwrite 0 0 x61 = 1\n6 7 p0 pwrite 0 0 x62 = 1\n"
 APPEND = "pwrite under O_APPEND appends (the system departs; page of write (pwrite))"
@@ -137,6 +142,8 @@ UNCHOSEN = [
     (APPENDED, "8 9 p0 pwrite 0 0 x63 = error EBADF", "1", f"{AT_ONCE} pwrite"),
     (APPENDED, "8 9 p0 pwrite 0 0 x6363 = 1", "2", f"{AT_ONCE} pwrite"),
     (APPENDED, "8 9 p0 pwrite 0 -1 x63 = 1", "error EINVAL", f"{AT_ONCE} pwrite"),
+    (FILED, f"4 5 p0 ftruncate 0 {2**40} = error EINVAL", "ok", f"{AT_ONCE} ftruncate"),
+    (FILED, f"4 5 p0 ftruncate 0 {2**40 + 1} = error EBADF", "error EFBIG", f"{AT_ONCE} ftruncate"),
     # a reason of an earlier call excuses none of a later one
     (f"{PIPED}4 5 p0 fstat 0 = pipe 0 1\n", "6 7 p0 getfl 0 = 2", "1", "page of fcntl: a pipe or FIFO"),
     (
