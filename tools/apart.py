@@ -6,7 +6,7 @@ of several: a reason that is found there may be the one, and need not.
 """
 
 import itertools
-from collections.abc import Iterable, Iterator, Sequence
+from collections.abc import Callable, Iterable, Iterator, Sequence
 from typing import NamedTuple
 
 from support import plain_model
@@ -19,6 +19,10 @@ from support.searching import FOREVER, Step
 
 from compare_lines import act_of
 from compare_reasons import APPENDED, Difference, Reason, is_append, is_paged_room, is_room, reason_of
+
+
+# How a reason is looked for.
+Why = Callable[[Difference], Reason | None]
 
 
 class Apart(NamedTuple):
@@ -137,21 +141,23 @@ def is_given(noted: Noted, answer: str) -> bool:
 # ---- what is apart
 
 
-def differences(history: Sequence[Noted], limits: Limits) -> Iterator[Apart]:
+def differences(history: Sequence[Noted], limits: Limits, why: Why = reason_of) -> Iterator[Apart]:
     """The calls, in this order, that the model answers otherwise."""
     known: set[int] = set()
     for place, answer in enumerate(Beside(history, limits).answers):
         if not is_given(history[place], answer):
             known.add(place)
-            yield apart_at(history, place, answer, limits, known)
+            yield apart_at(history, place, answer, limits, known, why)
 
 
-def apart_at(history: Sequence[Noted], place: int, answer: str, limits: Limits, known: set[int]) -> Apart:
+def apart_at(
+    history: Sequence[Noted], place: int, answer: str, limits: Limits, known: set[int], why: Why = reason_of
+) -> Apart:
     """A call that the model answers otherwise, as are the known ones up to it."""
     lines = [Line(str(at), plain_model.act_text(noted.act), noted.outcome) for at, noted in enumerate(history)]
     world = Beside(history[:place], limits).run.world
     difference = Difference(place, lines, lines[place], lines[place]._replace(outcome=answer), world)
-    reason = reason_of(difference)
+    reason = why(difference)
     if reason is None and is_by_append(history[: place + 1], limits, known - {place}):
         reason = APPENDED
     return Apart(place, history[place], answer, limits, reason, difference.is_settled())
@@ -163,21 +169,21 @@ def is_by_append(history: Sequence[Noted], limits: Limits, known: set[int]) -> b
     return all(at in known or is_given(noted, answers[at]) for at, noted in enumerate(history))
 
 
-def parted(history: Sequence[Noted], limits: Limits) -> list[Apart]:
+def parted(history: Sequence[Noted], limits: Limits, why: Why = reason_of) -> list[Apart]:
     """The calls, in this order, that the model answers otherwise, up to the first that has no reason or after which the
     two are apart."""
     found = []
-    for it in differences(history, limits):
+    for it in differences(history, limits, why):
         found.append(it)
         if not it.reason or not it.is_settled:
             break
     return found
 
 
-def parted_with_room(history: Sequence[Noted], limits: Limits) -> list[Apart]:
+def parted_with_room(history: Sequence[Noted], limits: Limits, why: Why = reason_of) -> list[Apart]:
     """The same, but with larger pipes where they have too little room."""
-    found = parted(history, limits)
-    return (wants_room(found, limits) and parted(history, ROOMY)) or found
+    found = parted(history, limits, why)
+    return (wants_room(found, limits) and parted(history, ROOMY, why)) or found
 
 
 def wants_room(found: Iterable[Apart], limits: Limits) -> bool:
@@ -186,14 +192,14 @@ def wants_room(found: Iterable[Apart], limits: Limits) -> bool:
     return limits.capacity < ROOMY.capacity and (is_room in fits or is_paged_room in fits)
 
 
-def possible(history: Sequence[Noted], limits: Limits) -> Apart | None:
+def possible(history: Sequence[Noted], limits: Limits, why: Why = reason_of) -> Apart | None:
     """The first call, in this order, that the model answers otherwise for a reason, if none without one precedes it."""
     bare: list[Noted] = []
-    for it in differences(history, limits):
+    for it in differences(history, limits, why):
         if any(noted.precedes(it.noted) for noted in bare):
             return None
         if it.reason:
-            return (possible(history, ROOMY) if wants_room([it], limits) else None) or it
+            return (possible(history, ROOMY, why) if wants_room([it], limits) else None) or it
         bare.append(it.noted)
     return None
 

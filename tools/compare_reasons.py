@@ -12,6 +12,9 @@ from compare_lines import act_of, is_moved, moved
 
 # Systems give a pipe memory in pages of so many bytes.
 PAGE = 4_096
+# What each system has at least: descriptors (_POSIX_OPEN_MAX), bytes of a name (_POSIX_NAME_MAX), and bytes of a file,
+# which has 32 bits for its size (FILESIZEBITS).
+OPEN_LEAST, NAME_LEAST, SIZE_LEAST = 20, 14, 2**31 - 1
 
 
 # ---- a difference
@@ -384,6 +387,101 @@ APPENDED = next(reason for reason in REASONS if reason.fits is is_pwrite_appende
 def reason_of(difference: Difference) -> Reason | None:
     """The first reason that fits a difference."""
     return next((reason for reason in REASONS if reason.fits(difference)), None)
+
+
+# ---- limits
+
+
+def free_descriptors(it: Difference) -> list[int]:
+    """The two lowest descriptors that a process has free, of a table without an end."""
+    table = it.process.table if it.process else {}
+    return [fd for fd in range(len(table) + 2) if fd not in table][:2]
+
+
+def is_more_descriptors(it: Difference) -> bool:
+    """A descriptor past those of the profile: of those that are free the lowest, or the one that dup2 is given."""
+    if it.words("dup2"):
+        return it.at is not None and it.act.fields[1] >= OPEN_MAX and it.system == str(it.act.fields[1])
+    first, second = free_descriptors(it)
+    given = [f"{first} {second}", f"{second} {first}"] if it.words("pipe") else [str(first)]
+    return it.words("open", "dup", "pipe") and it.gives("error EMFILE") and it.system in given
+
+
+def is_fewer_descriptors(it: Difference) -> bool:
+    """A descriptor that a system does not have, though the profile has: none of those that each system has."""
+    if it.fdref.startswith("error "):
+        return False
+    if it.words("dup2"):
+        return it.act.fields[1] >= OPEN_LEAST and it.system == "error EBADF"
+    is_past = free_descriptors(it)[1 if it.words("pipe") else 0] >= OPEN_LEAST
+    return it.words("open", "dup", "pipe") and it.system == "error EMFILE" and is_past
+
+
+def is_larger_file(it: Difference) -> bool:
+    """A file that is larger than those of the profile."""
+    if it.words("ftruncate"):
+        return it.gives("error EFBIG") and it.system == "ok"
+    if not it.words("write", "pwrite") or not it.at or it.at.pipe or it.system != str(it.count()):
+        return False
+    end = it.start(it.at) + it.count()
+    return it.world.limits.size < end <= OFFSET_MAX and (it.gives("error EFBIG") or it.fdref.isdigit())
+
+
+def is_smaller_file(it: Difference) -> bool:
+    """A file that is smaller than those of the profile, and as large as each system has them."""
+    if it.words("ftruncate"):
+        is_past = it.gives("ok") and it.act.fields[1] > SIZE_LEAST
+        return is_past and it.system in ("error EFBIG", "error EINVAL")
+    if not it.words("write", "pwrite") or not it.at or it.at.pipe or not it.fdref.isdigit():
+        return False
+    if it.system == "error EFBIG":
+        return it.count() > 0 and it.start(it.at) >= SIZE_LEAST
+    is_part = it.system.isdigit() and 0 < int(it.system) < int(it.fdref)
+    return is_part and it.start(it.at) + int(it.system) >= SIZE_LEAST
+
+
+def is_no_space(it: Difference) -> bool:
+    """A name that is to be made, or bytes that are to be written, for which a file system has no space."""
+    if it.system != "error ENOSPC" or it.fdref.startswith("error "):
+        return False
+    if it.words("write", "pwrite"):
+        return it.at is not None and not it.at.pipe and it.count() > 0
+    is_made = it.words("mkfifo", "link", "rename") or (it.words("open") and "creat" in it.flags())
+    return is_made and it.names()[-1] not in it.world.names
+
+
+def is_many_files(it: Difference) -> bool:
+    """A file that a system does not open, since too many are open in it."""
+    return it.words("open", "pipe") and it.system == "error ENFILE" and not it.fdref.startswith("error ")
+
+
+def is_no_process(it: Difference) -> bool:
+    """A child for which a system has no room."""
+    return it.words("fork") and it.fdref.isdigit() and it.system in ("error EAGAIN", "error ENOMEM")
+
+
+def is_long_name(it: Difference) -> bool:
+    """A name that is too long for a system, and longer than those that each system takes."""
+    return it.system == "error ENAMETOOLONG" and any(len(name) > NAME_LEAST for name in it.names())
+
+
+# Reasons by limits of a system, which the standard leaves open. Scripts that are compared do not have them: what runs
+# them sets the limits of the profile.
+LIMITS = [
+    Reason("more than 32 descriptors", OWN, "XBD limits.h, OPEN_MAX", is_more_descriptors),
+    Reason("fewer than 32 descriptors", OWN, "XBD limits.h, _POSIX_OPEN_MAX", is_fewer_descriptors),
+    Reason("more than 1,099,511,627,776 bytes in a file", OWN, "page of write", is_larger_file),
+    Reason("fewer than 1,099,511,627,776 bytes in a file", OWN, "XBD limits.h, FILESIZEBITS", is_smaller_file),
+    Reason("no space in the file system", OWN, "pages of open, mkfifo, link, rename and write", is_no_space),
+    Reason("too many files open in the system", OWN, "pages of open and pipe", is_many_files),
+    Reason("no room for a child", OWN, "page of fork", is_no_process),
+    Reason("names of at most 64 bytes that are too long", OWN, "XBD limits.h, _POSIX_NAME_MAX", is_long_name),
+]
+
+
+def reason_or_limit(difference: Difference) -> Reason | None:
+    """The first reason that fits a difference, or the limit."""
+    return reason_of(difference) or next((reason for reason in LIMITS if reason.fits(difference)), None)
 
 
 def told_reason(reason: Reason | None, what: str = "reason") -> str:

@@ -19,6 +19,9 @@ there is one the history has a reason, `room of a pipe (own)`: the standard leav
 
 So has a history in which no calls overlap, where each call that fdref answers otherwise has one of tools/compare.py
 that is its own choice. After the first that succeeds in one of the two alone, the rest is not compared; that is told.
+A limit of the system that the standard leaves open is one, too: more descriptors than 32, or fewer than that and not
+fewer than 20, larger and smaller files, shorter names, ENOSPC, ENFILE, EAGAIN of fork. A write that is short for want
+of space is none, as it cannot be told from a wrong one; nor is a join that is refused.
 
 Where none explains a history a part of it is printed that has none either. In it `?` is an answer that does not
 matter, and END `-` with `?` is a call of which nothing else is known. Both may be asked, too. Then comes the call that
@@ -58,7 +61,7 @@ from support.running import CannotRun
 from support.texts import several
 
 import apart
-from compare_reasons import OWN, told_reason
+from compare_reasons import OWN, reason_or_limit, told_reason
 
 # The reason of a history that only larger pipes explain.
 BY_ROOM = "reason: room of a pipe (own; page of write)"
@@ -112,7 +115,7 @@ class Orders:
         ordered = apart.came_back(history)
         if not apart.is_one_by_one(history):
             return self.with_perhaps(ordered, self.explained(history, self.args.limits))
-        found = apart.parted_with_room(ordered, self.args.limits)
+        found = apart.parted_with_room(ordered, self.args.limits, reason_or_limit)
         if not found:
             return self.explained(history, self.args.limits)
         self.confirm(ordered, found[-1])
@@ -125,7 +128,7 @@ class Orders:
 
     def with_perhaps(self, ordered: Sequence[Noted], result: Result) -> Result:
         """What is told of calls that overlap, with a reason that may be the one."""
-        found = apart.possible(ordered, self.args.limits)
+        found = apart.possible(ordered, self.args.limits, reason_or_limit)
         if not found or not found.reason or not isinstance(result, Unexplained):
             return result
         self.confirm(ordered, found)

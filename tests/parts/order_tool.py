@@ -181,6 +181,58 @@ LESS_ROOM = [
     (f"{PIPED}4 5 p0 setfl 1 -,nonblock = ok\n", "20 21 p0 write 1 61*2000 = 512", "2000"),
     (HELD, "20 - p0 write 1 61*20 = parked ?", "20"),
 ]
+# Limits of a system that the standard leaves open.
+TWENTY = FILED + "".join(f"{fd + 4} {fd + 4} p0 dup 0 = {fd}\n" for fd in range(1, 20))
+ALL = FILED + "".join(f"{fd + 4} {fd + 4} p0 dup 0 = {fd}\n" for fd in range(1, 32))
+FAR = f"{FILED}4 5 p0 lseek 0 {2**40} set = {2**40}\n"
+MORE = "more than 32 descriptors (own; XBD limits.h, OPEN_MAX)"
+FEWER = "fewer than 32 descriptors (own; XBD limits.h, _POSIX_OPEN_MAX)"
+LARGER = "more than 1,099,511,627,776 bytes in a file (own; page of write)"
+SMALLER = "fewer than 1,099,511,627,776 bytes in a file (own; XBD limits.h, FILESIZEBITS)"
+NO_SPACE = "no space in the file system (own; pages of open, mkfifo, link, rename and write)"
+MANY = "too many files open in the system (own; pages of open and pipe)"
+LONG = "names of at most 64 bytes that are too long (own; XBD limits.h, _POSIX_NAME_MAX)"
+LIMITS = [
+    (FILED, "40 41 p0 dup2 0 40 = 40", "error EBADF", MORE),
+    (ALL, "40 41 p0 dup 0 = 32", "error EMFILE", MORE),
+    (ALL, "40 41 p0 open b rw,creat = 32", "error EMFILE", MORE),
+    (ALL, "40 41 p0 pipe = 32 33", "error EMFILE", MORE),
+    (TWENTY, "40 41 p0 dup 0 = error EMFILE", "20", FEWER),
+    (TWENTY.rpartition("23 23")[0], "40 41 p0 pipe = error EMFILE", "19 20", FEWER),
+    (FILED, "40 41 p0 dup2 0 20 = error EBADF", "20", FEWER),
+    (FAR, "40 41 p0 write 0 x61 = 1", "error EFBIG", LARGER),
+    (FILED, f"40 41 p0 pwrite 0 {2**40 - 1} x6161 = 2", "1", LARGER),
+    (FILED, f"40 41 p0 ftruncate 0 {2**40 + 1} = ok", "error EFBIG", LARGER),
+    (FILED, f"40 41 p0 pwrite 0 {2**32} x61 = error EFBIG", "1", SMALLER),
+    (FILED, f"40 41 p0 pwrite 0 {2**32 - 2} x616161 = 2", "3", SMALLER),
+    (FILED, f"40 41 p0 ftruncate 0 {2**31} = error EINVAL", "ok", SMALLER),
+    (FILED, "40 41 p0 open b rw,creat = error ENOSPC", "1", NO_SPACE),
+    (FILED, "40 41 p0 mkfifo b = error ENOSPC", "ok", NO_SPACE),
+    (FILED, "40 41 p0 rename a b = error ENOSPC", "ok", NO_SPACE),
+    (FILED, "40 41 p0 write 0 x61 = error ENOSPC", "1", NO_SPACE),
+    (FILED, "40 41 p0 open a r = error ENFILE", "1", MANY),
+    (FILED, "40 41 p0 fork = error EAGAIN", "1", "no room for a child (own; page of fork)"),
+    (FILED, "40 41 p0 unlink abcdefghijklmno = error ENAMETOOLONG", "error ENOENT", LONG),
+]
+# The nearest answers that it does not.
+NO_LIMITS = [
+    (FILED, "40 41 p0 dup2 0 19 = error EBADF", "19"),
+    (FILED, "40 41 p0 dup2 0 40 = 41", "error EBADF"),
+    (FILED, "40 41 p0 dup2 1 40 = 40", "error EBADF"),
+    (ALL, "40 41 p0 dup 0 = 33", "error EMFILE"),
+    (ALL, "40 41 p0 pipe = 33 34", "error EMFILE"),
+    (TWENTY.rpartition("23 23")[0], "40 41 p0 dup 0 = error EMFILE", "19"),
+    (FAR, "40 41 p0 write 0 x6161 = 1", "error EFBIG"),
+    (FILED, f"40 41 p0 ftruncate 0 {2**31 - 1} = error EFBIG", "ok"),
+    (FILED, f"40 41 p0 pwrite 0 {2**31 - 2} x61 = error EFBIG", "1"),
+    (FILED, "40 41 p0 pwrite 0 0 x6161 = 1", "2"),
+    (FILED, "40 41 p0 open a rw,creat = error ENOSPC", "1"),
+    (FILED, "40 41 p0 ftruncate 0 9 = error ENOSPC", "ok"),
+    (PIPED, "40 41 p0 write 1 x61 = error ENOSPC", "1"),
+    (FILED, "40 41 p0 dup 0 = error ENFILE", "1"),
+    (FILED, "40 41 p0 dup 0 = error EAGAIN", "1"),
+    (FILED, "40 41 p0 unlink abcdefghijklmn = error ENAMETOOLONG", "error ENOENT"),
+]
 # Calls of no bytes: errors that are not looked for, EAGAIN of an empty pipe, and a write to a pipe, after which nothing
 # is known.
 READ_ONLY, WRITE_ONLY = (f"{JOINED}2 3 p0 open a {mode},creat = 0\n" for mode in "rw")
@@ -247,12 +299,12 @@ def reason_cases(program: str) -> Iterator[Case]:
     room = "room of a pipe (own; page of write)"
     roomy = "where a pipe has room for 65,536 bytes"
     less = [(before, call, f"{answer}, {roomy}", room) for before, call, answer in LESS_ROOM]
-    for before, call, answer, reason in [*CHOICES, *less, *NO_BYTES]:
+    for before, call, answer, reason in [*CHOICES, *less, *NO_BYTES, *LIMITS]:
         yield f"a choice: {call}", partial(prints, program, f"{before}{call}\n", 0, chosen(call, answer, reason))
     for before, call, answer, end in [*UNCHOSEN, *((*it, WRITE) for it in UNROOMY)]:
         lines = f"  {call}\nfdref answers {answer}\n{end}"
         yield f"no choice: {call}", partial(ends_so, program, f"{before}{call}\n", 1, lines)
-    for before, call, answer in SOME_BYTES:
+    for before, call, answer in [*SOME_BYTES, *NO_LIMITS]:
         yield f"no choice: {call}", partial(is_bare, program, f"{before}{call}\n", answer)
     further = f"{JOINED}2 3 p0 read 7 0 = x\n4 5 p0 close 7 = error EINVAL\n"
     yield "after a call of no bytes", partial(is_bare, program, further, "error EBADF")
