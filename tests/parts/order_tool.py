@@ -131,19 +131,21 @@ CHOICES += [
 # What differs of one call after another without being such a choice, what fdref answers, and what is told of it.
 APPENDED = f"{JOINED}2 3 p0 open a rw,creat,append = 0\n4 5 p0 pwrite 0 0 x61 = 1\n6 7 p0 pwrite 0 0 x62 = 1\n"
 APPEND = "pwrite under O_APPEND appends (the system departs; page of write (pwrite))"
-AT_ONCE = "XSH 2.9.7: calls on regular files are atomic to each other; page of"
+NUMBERED = "docs/PROFILE.md: processes are numbered 0, 1, 2 .. in the order of joins and forks (own)"
 UNCHOSEN = [
-    (f"{FILED}4 5 p0 write 0 x61 = 1\n", "6 7 p0 pread 0 0 9 = x62", "x61", f"{AT_ONCE} pread"),
+    (f"{FILED}4 5 p0 write 0 x61 = 1\n", "6 7 p0 pread 0 0 9 = x62", "x61", "page of pread"),
     (APPENDED, "8 9 p0 pread 0 0 9 = x6162", "x62", f"reason: {APPEND}"),
     (APPENDED, "8 9 p0 fstat 0 = regular 2 1", "regular 1 1", f"reason: {APPEND}"),
-    (APPENDED, "8 9 p0 pread 0 0 9 = x6163", "x62", f"{AT_ONCE} pread"),
-    (APPENDED, "8 9 p0 fstat 0 = regular 3 1", "regular 1 1", f"{AT_ONCE} fstat"),
-    (APPENDED, "8 9 p0 fstat 0 = regular 2 2", "regular 1 1", f"{AT_ONCE} fstat"),
-    (APPENDED, "8 9 p0 pwrite 0 0 x63 = error EBADF", "1", f"{AT_ONCE} pwrite"),
-    (APPENDED, "8 9 p0 pwrite 0 0 x6363 = 1", "2", f"{AT_ONCE} pwrite"),
-    (APPENDED, "8 9 p0 pwrite 0 -1 x63 = 1", "error EINVAL", f"{AT_ONCE} pwrite"),
-    (FILED, f"4 5 p0 ftruncate 0 {2**40} = error EINVAL", "ok", f"{AT_ONCE} ftruncate"),
-    (FILED, f"4 5 p0 ftruncate 0 {2**40 + 1} = error EBADF", "error EFBIG", f"{AT_ONCE} ftruncate"),
+    (APPENDED, "8 9 p0 pread 0 0 9 = x6163", "x62", "page of pread"),
+    (APPENDED, "8 9 p0 fstat 0 = regular 3 1", "regular 1 1", "page of fstat"),
+    (APPENDED, "8 9 p0 fstat 0 = regular 2 2", "regular 1 1", "page of fstat"),
+    (APPENDED, "8 9 p0 pwrite 0 0 x63 = error EBADF", "1", "page of pwrite"),
+    (APPENDED, "8 9 p0 pwrite 0 0 x6363 = 1", "2", "page of pwrite"),
+    (APPENDED, "8 9 p0 pwrite 0 -1 x63 = 1", "error EINVAL", "page of pwrite"),
+    (FILED, f"4 5 p0 ftruncate 0 {2**31 - 1} = error EINVAL", "ok", "page of ftruncate"),
+    (FILED, f"4 5 p0 ftruncate 0 {2**40 + 1} = error EBADF", "error EFBIG", "page of ftruncate"),
+    (JOINED, "2 3 p0 close 7 = error EINVAL", "error EBADF", "page of close"),
+    (JOINED, "2 3 p0 fork = 2", "1", NUMBERED),
     # a reason of an earlier call excuses none of a later one
     (f"{PIPED}4 5 p0 fstat 0 = pipe 0 1\n", "6 7 p0 getfl 0 = 2", "1", "page of fcntl: a pipe or FIFO"),
     (
@@ -269,8 +271,8 @@ FORKED = f"{FILED}4 5 p0 fork = 1\n6 7 p1 attach = ok\n"
 OVERLAPPING = [
     (FORKED, "10 20 p0 read 0 70000 = x\n15 18 p1 fstat 0 = regular 0 1", f"perhaps: {COUNT}"),
     (FORKED, "10 20 p0 read 0 9 = x61\n15 18 p1 open a r,trunc = 1", f"perhaps: {FLAGS}"),
-    (FORKED, "10 12 p0 read 0 9 = x61\n15 20 p1 open a r,trunc = 1\n18 19 p0 fstat 0 = regular 0 1", f"{AT_ONCE} read"),
-    (FORKED, "10 20 p0 read 0 9 = x61\n15 18 p1 fstat 0 = regular 0 1", f"{AT_ONCE} read"),
+    (FORKED, "10 12 p0 read 0 9 = x61\n15 20 p1 open a r,trunc = 1\n18 19 p0 fstat 0 = regular 0 1", "page of read"),
+    (FORKED, "10 20 p0 read 0 9 = x61\n15 18 p1 fstat 0 = regular 0 1", "page of read"),
 ]
 
 

@@ -28,6 +28,7 @@ BEGIN = 1_000
 
 ATOMIC = "XSH 2.9.7: calls on regular files are atomic to each other; page of "
 REPLACED = "page of rename: a name that is replaced is never missing"
+NUMBERED = "docs/PROFILE.md: processes are numbered 0, 1, 2 .. in the order of joins and forks (own)"
 SMALL = "page of write: at most PIPE_BUF bytes are not interleaved; page of read"
 
 
@@ -403,13 +404,13 @@ IMPOSSIBLE = [
         "an error that the profile does not know",
         TWO,
         "1 9 p0 pread 0 0 9 = error EINTR",
-        ("p0 pread 0 0 9", ATOMIC + "pread"),
+        ("p0 pread 0 0 9", "page of pread"),
     ),
     Told(
         "a number that was given already",
         "p0 join = 0",
         "1 9 p0 fork = 1; 2 3 p1 attach = ok; 12 13 p0 fork = 1",
-        ("p0 fork", "page of fork"),
+        ("p0 fork", NUMBERED),
     ),
 ]
 

@@ -134,22 +134,26 @@ ATOMIC = """
 # Calls whose page has another name.
 PAGES = {"getfl": "page of fcntl", "setfl": "page of fcntl"}
 REPLACED = "page of rename: a name that is replaced is never missing"
+NUMBERED = "docs/PROFILE.md: processes are numbered 0, 1, 2 .. in the order of joins and forks (own)"
 
 
 def page_of(history: Sequence[Noted], blamed: Noted) -> str:
-    """The page of the standard that a call departs from, if no order explains it."""
+    """The page of the standard that a call departs from, if no order explains it. Calls of one process alone are atomic
+    to no others."""
     footprints = Footprints(history)
     at = footprints.touches[list(history).index(blamed)].at
     word = blamed.act.word
     if blamed.outcome == WAITS:
         return ENDS_OF_WAITING.get(word, page_name(word))
+    if word in ("join", "fork") and blamed.outcome.isdigit():
+        return NUMBERED
     if is_missing(history, blamed):
         return REPLACED
     if word == "open" and footprints.names.first(blamed.act.fields[0]) in footprints.names.fifos:
         return "page of open: a FIFO"
     if at and at.may_be_pipe:
         return page_of_pipe(history, footprints, blamed, at)
-    if word in ATOMIC:
+    if word in ATOMIC and len({noted.process for noted in history}) > 1:
         return f"XSH 2.9.7: calls on regular files are atomic to each other; {page_name(word)}"
     return page_name(word)
 
