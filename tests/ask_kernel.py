@@ -344,6 +344,22 @@ def question_marks_fit(bench: Bench) -> None:
         differs_nowhere(asked, random_lines(SEED, number, 60, "full-pipes"))
 
 
+def settled_with(answer: str, other: str) -> list[str]:
+    """The command of a system that does all that the profile says, but that gives another answer somewhere."""
+    settled = shlex.join([sys.executable, str(STAND_INS / "settled_driver.py")])
+    return ["sh", "-c", f"{settled} | sed 's/^\\([0-9]*\\) {answer}$/\\1 {other}/'"]
+
+
+@case("a pipe with its ends the other way round", "1 0", "which end of a pipe has the lower number")
+@case("a pipe with another end", "2 0", None)
+def pipe_is_told(bench: Bench, ends: str, reason: str | None) -> None:
+    """The numbers of a pipe's ends may be either way round, and no others."""
+    asked = Asked([bench.program], settled_with("p0 pipe = 0 1", f"p0 pipe = {ends}"))
+    found = compare.checked(asked, lines_of(b"join\np0 pipe\n")).differences
+    reasons = [it.reason and it.reason.name for it in found]
+    require(reasons == [reason], f"{reasons}")
+
+
 NONBLOCK = b"p0 setfl 1 -,nonblock\n"
 
 
@@ -354,10 +370,9 @@ NONBLOCK = b"p0 setfl 1 -,nonblock\n"
 @case("a write that may wait, in part", b"", "61*600", "parked ?", "24")
 def write_is_wrong(bench: Bench, calls: bytes, data: str, answer: str, wrong: str) -> None:
     """An answer to a write that no room of a pipe explains is told without a reason."""
-    settled = [sys.executable, str(STAND_INS / "settled_driver.py")]
-    driver = f"{shlex.join(settled)} | sed 's/^\\([0-9]* p0 write 1 {re.escape(data)}\\) = {answer}$/\\1 = {wrong}/'"
+    driver = settled_with(f"p0 write 1 {re.escape(data)} = {answer}", f"p0 write 1 {data} = {wrong}")
     lines = lines_of(b"join\np0 pipe\n" + calls + b"p0 write 1 61*1000\np0 write 1 %s\n" % data.encode())
-    result = compare.checked(Asked([bench.program], ["sh", "-c", driver]), lines)
+    result = compare.checked(Asked([bench.program], driver), lines)
     found = result.unexplained
     require(found and (found.system, found.act.word) == (wrong, "write"), f"{found and compare.told(found)}")
 

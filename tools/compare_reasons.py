@@ -328,6 +328,11 @@ def is_unchecked(it: Difference) -> bool:
     return it.fdref.startswith("error ") and it.system == ("x" if it.words("read", "pread") else "0")
 
 
+def is_turned(it: Difference) -> bool:
+    """A pipe whose writing end has the lower number."""
+    return it.words("pipe") and not it.are_errors() and it.system.split(" ") == it.fdref.split(" ")[::-1]
+
+
 def is_full(it: Difference) -> bool:
     """More processes than the profile has."""
     return it.words("join", "fork") and it.gives("error EAGAIN") and not it.world.is_closed and it.system.isdigit()
@@ -361,6 +366,7 @@ REASONS = [
     Reason("errors of a call of no bytes", OWN, "pages of read and write", is_unchecked),
     Reason("room of a pipe that is counted in pages", OWN, "page of write", is_paged_room),
     Reason("room of a pipe", OWN, "page of write", is_room),
+    Reason("which end of a pipe has the lower number", OWN, "page of pipe", is_turned),
     Reason("size and links of a pipe in fstat", OWN, "page of fstat", is_stat_of_pipe),
     Reason("names that the profile does not take", OWN, "XBD 3, Portable Filename Character Set", is_own_name),
     Reason("flags that the standard leaves undefined", OWN, "page of open", is_own_flags),

@@ -15,7 +15,8 @@ each resume.
 
 In fdref a pipe has room for 1,024 bytes, or for as many as --pipe-capacity says. Where no order explains a history with
 a pipe or FIFO, one is searched for with pipes of 65,536 bytes, and run through `fdref replay --pipe-capacity 65536`. If
-there is one the history has a reason, `room of a pipe (own)`: the standard leaves it open.
+there is one the history has a reason, `room of a pipe (own)`: the standard leaves it open. So it does which end of a
+pipe has the lower number. Where that is the writing one, dup, dup2 and close are added, and the ends change places.
 
 So has a history in which no calls overlap, where each call that fdref answers otherwise has one of tools/compare.py
 that is its own choice. After the first that succeeds in one of the two alone, the rest is not compared; that is told.
@@ -55,9 +56,11 @@ from support.ordering import (
     by_room,
     explain,
 )
+from support.pipe_ends import turned
 from support.plain_model import Limits
 from support.replaying import Differs, verified
 from support.running import CannotRun
+from support.runs import Line
 from support.texts import several
 
 import apart
@@ -65,6 +68,10 @@ from compare_reasons import OWN, reason_or_limit, told_reason
 
 # The reason of a history that only larger pipes explain.
 BY_ROOM = "reason: room of a pipe (own; page of write)"
+# What is told of a history in which the writing end of a pipe has the lower number.
+TURNED = "where the ends of a pipe change places, by dup, dup2 and close"
+BY_TURN = "reason: which end of a pipe has the lower number (own; page of pipe)"
+NOT_BY_TURN = f"that is told {TURNED}"
 WHERE_ROOMY = f"where a pipe has room for {ROOMY.capacity:,} bytes"
 
 EXPLAINED, NOT_EXPLAINED, WRONG_WORDS, CANNOT_RUN, NO_CALL, GIVEN_UP = 0, 1, 2, 3, 4, 5
@@ -89,18 +96,30 @@ class Orders:
 
     def answer(self, number: int, history: Sequence[Noted]) -> None:
         """Answers for a history, and prints what is to be told of it."""
+        exchanged = turned(history)
         key = form(history)
         is_new = key not in self.known
         if is_new:
-            self.known[key] = number, self.found(history)
+            self.known[key] = number, self.found_turned(exchanged) if exchanged else self.found(history)
+        history = exchanged or history
         first, result = self.known[key]
         self.counts[type(result)] += 1
         if isinstance(result, Explained) and is_new:
             told = self.ordered(history, result)
         else:
             told = self.unordered(history, result) if is_new else f"as history {first}\n"
+        if exchanged and is_new:
+            told += (NOT_BY_TURN if isinstance(result, Unexplained) else BY_TURN) + "\n"
         if not (self.args.quiet and (isinstance(result, Explained | ByRoom | Chosen) or not is_new)):
             print(("" if self.is_one else f"history {number}: ") + told, end="", flush=True)
+
+    def found_turned(self, history: Sequence[Noted]) -> Result | ByRoom | Chosen:
+        """Whether an order explains a history in which the ends of a pipe change places: that is a choice."""
+        result = self.found(history)
+        if not isinstance(result, Explained):
+            return result
+        lines = verified(self.program, history, result.steps, self.args.limits)
+        return Chosen("\n".join([f"an order explains it {TURNED}", *map(moved_line, lines), ""]))
 
     def found(self, history: Sequence[Noted]) -> Result | ByRoom | Chosen:
         """Whether an order explains a history, with pipes as they are in fdref or with larger ones, and if not why."""
@@ -174,7 +193,7 @@ class Orders:
         if isinstance(result, ByRoom):
             lines = verified(self.program, history, result.steps, ROOMY)
             told = [f"an order explains it {WHERE_ROOMY}"]
-            return "\n".join([*told, *(f"  {line.act} = {line.outcome}" for line in lines), BY_ROOM, ""])
+            return "\n".join([*told, *map(moved_line, lines), BY_ROOM, ""])
         if not isinstance(result, Unexplained):
             return f"given up after {several(result.states, 'state')}\n" if isinstance(result, GivenUp) else ""
         parts = ["no order explains it, nor this part of it:", indented(result.shrunk)]
@@ -193,6 +212,11 @@ class Orders:
         if self.counts[Unexplained]:
             return NOT_EXPLAINED
         return GIVEN_UP if self.counts[GivenUp] else EXPLAINED
+
+
+def moved_line(line: Line) -> str:
+    """A line of a run without its place, moved to the right."""
+    return f"  {line.act} = {line.outcome}"
 
 
 def indented(history: Sequence[Noted]) -> str:

@@ -276,12 +276,39 @@ OVERLAPPING = [
 ]
 
 
+# Pipes whose writing end has the lower number: what is told of one, and histories with their status and what is told
+# last.
+TURNED = f"{JOINED}2 3 p0 pipe = 1 0\n"
+TURNED_LINES = """an order explains it where the ends of a pipe change places, by dup, dup2 and close
+  p0 join = 0
+  p0 pipe = 0 1
+  p0 dup 0 = 2
+  p0 dup2 1 0 = 0
+  p0 dup2 2 1 = 1
+  p0 close 2 = ok
+reason: which end of a pipe has the lower number (own; page of pipe)
+"""
+BY_TURN = TURNED_LINES.splitlines()[-1]
+NOT_BY_TURN = "that is told where the ends of a pipe change places, by dup, dup2 and close"
+PASSED_ON = f"{TURNED}4 5 p0 fork = 1\n6 7 p1 attach = ok\n8 15 p1 read 1 5 = x61\n10 11 p0 write 0 x61 = 1\n"
+TURNS = [
+    (f"{PASSED_ON}16 17 p1 close 0 = ok\n18 19 p1 pipe = 2 0\n20 21 p1 write 0 x62 = 1\n", 0, BY_TURN),
+    (f"{PASSED_ON}16 17 p0 write 1 x61 = error EBADF\n", 0, BY_TURN),
+    (f"{TURNED}4 5 p0 read 1 70000 = error EBADF\n", 1, f"page of read: a pipe or FIFO\n{NOT_BY_TURN}"),
+    (f"{PASSED_ON}16 17 p0 write 1 x61 = 1\n", 1, NOT_BY_TURN),
+    (f"{PASSED_ON}16 17 p0 close 1 = ok\n18 19 p0 pipe = 1 2\n20 21 p0 read 2 1 = x\n", 1, NOT_BY_TURN),
+    (f"{JOINED}2 3 p0 pipe = 2 1\n", 1, f"page of pipe\n{NOT_BY_TURN}"),
+    (f"{JOINED}2 3 p0 pipe = 0 0\n", 1, "page of pipe"),
+    (ALL.rpartition("34 34")[0] + "40 41 p0 pipe = 31 30\n", 0, BY_TURN),
+]
+
+
 def chosen(call: str, answer: str, reason: str) -> str:
     """What is told of a call that fdref answers otherwise by its own choice."""
     return f"no order explains it, by a choice of fdref's own\n  {call}\nfdref answers {answer}\nreason: {reason}\n"
 
 
-def ends_so(program: str, text: str, status: int, end: str) -> None:
+def ends_with(program: str, text: str, status: int, end: str) -> None:
     """What the tool prints of a history ends with these lines, and it ends with this status."""
     ran = told(program, text)
     same((status, ""), (ran.status, ran.stderr.decode()))
@@ -305,13 +332,16 @@ def reason_cases(program: str) -> Iterator[Case]:
         yield f"a choice: {call}", partial(prints, program, f"{before}{call}\n", 0, chosen(call, answer, reason))
     for before, call, answer, end in [*UNCHOSEN, *((*it, WRITE) for it in UNROOMY)]:
         lines = f"  {call}\nfdref answers {answer}\n{end}"
-        yield f"no choice: {call}", partial(ends_so, program, f"{before}{call}\n", 1, lines)
+        yield f"no choice: {call}", partial(ends_with, program, f"{before}{call}\n", 1, lines)
     for before, call, answer in [*SOME_BYTES, *NO_LIMITS]:
         yield f"no choice: {call}", partial(is_bare, program, f"{before}{call}\n", answer)
     further = f"{JOINED}2 3 p0 read 7 0 = x\n4 5 p0 close 7 = error EINVAL\n"
     yield "after a call of no bytes", partial(is_bare, program, further, "error EBADF")
     for before, calls, end in OVERLAPPING:
-        yield f"at once: {calls}", partial(ends_so, program, f"{before}{calls}\n", 1, end)
+        yield f"at once: {calls}", partial(ends_with, program, f"{before}{calls}\n", 1, end)
+    yield "a pipe with its ends the other way round", partial(prints, program, TURNED, 0, TURNED_LINES)
+    for text, status, end in TURNS:
+        yield f"turned: {text}", partial(ends_with, program, text, status, end)
     flags = f"{FILED}4 5 p0 open a r,trunc = 1\n6 7 p0 fstat 1 = regular 0 1\n"
     one = chosen("4 5 p0 open a r,trunc = 1", *CHOICES[2][2:])
     rest = f"{one}the rest is not compared, 1 call\n"
