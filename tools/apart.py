@@ -186,10 +186,14 @@ def parted_with_room(history: Sequence[Noted], limits: Limits, why: Why = reason
     return (wants_room(found, limits) and parted(history, ROOMY, why)) or found
 
 
+def is_of_room(reason: Reason | None) -> bool:
+    """Whether a reason is how many bytes a pipe holds."""
+    return reason is not None and reason.fits in (is_room, is_paged_room)
+
+
 def wants_room(found: Iterable[Apart], limits: Limits) -> bool:
     """Whether a call is answered otherwise since pipes have too little room, and there are larger ones."""
-    fits = [it.reason.fits for it in found if it.reason]
-    return limits.capacity < ROOMY.capacity and (is_room in fits or is_paged_room in fits)
+    return limits.capacity < ROOMY.capacity and any(is_of_room(it.reason) for it in found)
 
 
 def possible(history: Sequence[Noted], limits: Limits, why: Why = reason_of) -> Apart | None:

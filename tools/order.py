@@ -72,6 +72,7 @@ BY_ROOM = "reason: room of a pipe (own; page of write)"
 TURNED = "where the ends of a pipe change places, by dup, dup2 and close"
 BY_TURN = "reason: which end of a pipe has the lower number (own; page of pipe)"
 NOT_BY_TURN = f"that is told {TURNED}"
+CAPACITY = "; --pipe-capacity tells how many bytes a pipe of the system holds"
 WHERE_ROOMY = f"where a pipe has room for {ROOMY.capacity:,} bytes"
 
 EXPLAINED, NOT_EXPLAINED, WRONG_WORDS, CANNOT_RUN, NO_CALL, GIVEN_UP = 0, 1, 2, 3, 4, 5
@@ -151,7 +152,8 @@ class Orders:
         if not found or not found.reason or not isinstance(result, Unexplained):
             return result
         self.confirm(ordered, found)
-        return result._replace(page=f"{result.page}\n{told_reason(found.reason, 'perhaps')}")
+        hint = CAPACITY if apart.is_of_room(found.reason) else ""
+        return result._replace(page=f"{result.page}\n{told_reason(found.reason, 'perhaps')}{hint}")
 
     def chosen(self, found: Sequence[apart.Apart], after: Sequence[Noted]) -> Chosen:
         """What is told of calls that fdref answers otherwise by choices of its own: the first for each reason."""

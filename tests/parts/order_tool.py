@@ -308,9 +308,9 @@ def chosen(call: str, answer: str, reason: str) -> str:
     return f"no order explains it, by a choice of fdref's own\n  {call}\nfdref answers {answer}\nreason: {reason}\n"
 
 
-def ends_with(program: str, text: str, status: int, end: str) -> None:
+def ends_with(program: str, text: str, status: int, end: str, *options: str) -> None:
     """What the tool prints of a history ends with these lines, and it ends with this status."""
-    ran = told(program, text)
+    ran = told(program, text, *options)
     same((status, ""), (ran.status, ran.stderr.decode()))
     require(ran.stdout.decode().endswith(f"\n{end}\n"), ran.said())
 
@@ -472,6 +472,12 @@ def cases(program: str) -> Iterator[Case]:
     yield "a pipe of 1,199 bytes", partial(prints, program, ROOMY, 0, ROOMY_LINES, "--pipe-capacity", "1199")
     yield "a pipe of 511 bytes", partial(fails, program, ROOMY, 2, "from 512 to 65536", "--pipe-capacity", "511")
     wrong = ROOMY.replace("70 80 p0 write 1 61*600 = 600", "70 80 p0 read 0 9 = x")
+    four = f"{PIPED}4 5 p0 fork = 1\n6 7 p1 attach = ok\n8 9 p0 setfl 1 -,nonblock = ok\n10 11 p0 write 1 61*9000 = 4096\n"
+    four += "12 20 p0 write 1 x61 = error EAGAIN\n15 18 p1 write 1 x61 = error EAGAIN\n"
+    hint = "perhaps: room of a pipe (own; page of write); --pipe-capacity tells how many bytes a pipe of the system holds"
+    yield "a pipe of 4,096 bytes", partial(ends_with, program, four, 1, hint)
+    room, end = ("--pipe-capacity", "4096"), "p0 write 1 x61 = error EAGAIN"
+    yield "a pipe of 4,096 bytes, as is told", partial(ends_with, program, four, 0, f"7 {end}", *room)
     yield "a larger pipe, in vain", partial(fails, program, wrong, 1, "no order explains it")
     yield "quiet", partial(prints, program, four, 1, f"history 2: {BAD_LINES}{totals}", "--quiet")
     yield from reason_cases(program)
@@ -484,7 +490,7 @@ def cases(program: str) -> Iterator[Case]:
     yield "a line that is no call", partial(fails, program, f"{GOOD}\n1 2 p0 jion = 0\n", 4, "line 8: ")
     no_answer = "line 2: pipe does not give 0; expected two descriptors, as 0 1, an error, as error EBADF, or ?\n"
     yield "a line without an answer", partial(fails, program, GOOD.replace("= 0 1", "= 0"), 4, f"order.py: {no_answer}")
-    long = "line 2: not an act, from byte 12 of it on; expected data of at most 65700 bytes, as x6869 or 61*512\n"
+    long = "line 2: not an act, from byte 16 on; expected data of at most 65700 bytes, as x6869 or 61*512\n"
     yield "data too long", partial(fails, program, f"{JOINED}2 3 p0 write 0 61*65701 = 1\n", 4, f"order.py: {long}")
     yield "what is built", takes_what_is_built
     yield "the example", partial(answers_the_example, program)

@@ -94,7 +94,7 @@ def read_line(text: str, number: int) -> Noted:
     if not parts:
         raise BadHistory(number, "not START END pK ACT = OUTCOME")
     start, end = int(parts[1]), None if parts[2] == "-" else int(parts[2])
-    act = read_act(parts[3], number)
+    act = read_act(parts[3], number, parts.start(3))
     noted = Noted(start, end, act, spelled(act.word, parts[4]))
     if end is not None and end < start:
         raise BadHistory(number, "it ends before it begins")
@@ -123,15 +123,15 @@ def check_outcome(noted: Noted, number: int) -> None:
     raise BadHistory(number, f"{noted.act.word} does not give {noted.outcome}; expected {expected}")
 
 
-def read_act(text: str, number: int) -> plain_model.Act:
-    """The act of a line: a call, a join, an attach or an exit."""
+def read_act(text: str, number: int, before: int) -> plain_model.Act:
+    """The act of a line, after so many bytes of it: a call, a join, an attach or an exit."""
     if re.fullmatch(r"p(0|[1-9]\d*) join", text):
         return act_of(text)
     try:
         act = plain_model.read_act(text.encode())
     except plain_model.NotAnAct as fault:
         column, expected = fault.args
-        raise BadHistory(number, f"not an act, from byte {column} of it on; expected {expected}") from None
+        raise BadHistory(number, f"not an act, from byte {before + column} on; expected {expected}") from None
     if act.word == "resume":
         raise BadHistory(number, "a resume is no call")
     return act
