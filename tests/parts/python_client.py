@@ -235,6 +235,28 @@ def with_another_server() -> None:
         same((NO_PLACE, listener.path), (raised.strerror, raised.filename))
 
 
+def with_an_ended_server(is_taken: bool) -> None:
+    """Where a server ends before it answers, the path is told, whether it had taken the connection or not."""
+    listener = Listener()
+    taken: list[socket.socket] = []
+
+    def end() -> None:
+        time.sleep(A_WHILE)
+        if is_taken:
+            taken.append(listener.socket.accept()[0])
+            taken[-1].recv(99)
+            taken[-1].close()
+        listener.socket.close()
+
+    with contextlib.closing(listener):
+        thread = threading.Thread(target=end, daemon=True)
+        thread.start()
+        raised = raises(ConnectionResetError, lambda: fdref.join(listener.path, within=SECONDS))
+        thread.join(SECONDS)
+        wanted = (errno.ECONNRESET, "the server ended before it had a place for this process", listener.path)
+        same(wanted, (raised.errno, raised.strerror, raised.filename))
+
+
 def limited(program: str) -> None:
     """An answer that does not come within the limit ends the process; one that comes does not."""
     with Server(program, 2) as server, joined(server) as process:
@@ -435,6 +457,8 @@ def cases(program: str) -> Iterator[Case]:
     yield "a server without a place", partial(without_a_place, program)
     yield "a queue without a place", with_a_full_queue
     yield "another server", with_another_server
+    for is_taken in (False, True):
+        yield f"a server that ends, connection taken: {is_taken}", partial(with_an_ended_server, is_taken)
     yield "answers with a limit", partial(limited, program)
     yield "the example with a server of its own", partial(example, program, True)
     yield "the example with a server that is there", partial(example, program, False)

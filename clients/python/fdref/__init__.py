@@ -96,6 +96,9 @@ HOUSE = 2**32 - 1
 # How many seconds the first answer is waited for where no limit is given. A server that has a place answers at once.
 FIRST_ANSWER = 10.0
 
+# What is told where the connection is at its end.
+CLOSED = "the server has closed the connection"
+
 ERRORS = (
     "EBADF EINVAL ESPIPE EFBIG EOVERFLOW ENOENT EEXIST EMLINK "
     "ENAMETOOLONG EMFILE ENFILE ENOSPC EAGAIN EPIPE ENXIO ESRCH"
@@ -155,7 +158,7 @@ def join(path: str | os.PathLike[str], within: float = 0) -> Process:
 
     `within` is in seconds. A server that is only starting is waited for so long, and its first answer no longer than
     that from the call on; where it is 0 the server has to be there, and its first answer is waited for FIRST_ANSWER
-    seconds. NoPlace: the connection was made, and no answer came.
+    seconds. NoPlace: the connection was made, and no answer came. ConnectionResetError: the server ended before it came.
     """
     return Process(path, b"\x01", within=within)
 
@@ -212,6 +215,11 @@ class Process:
             number = self._ask(opening)
         except NoAnswer:
             raise NoPlace(self._path) from None
+        except ConnectionError as fault:
+            if not isinstance(fault, ConnectionResetError | BrokenPipeError) and fault.args != (CLOSED,):
+                raise
+            why = "the server ended before it had a place for this process"
+            raise ConnectionResetError(errno.ECONNRESET, why, self._path) from None
         self.timeout = None
         return number
 
@@ -371,7 +379,7 @@ class Process:
         except TimeoutError:
             raise self._no_answer() from None
         if len(some) < count:
-            raise ConnectionError("the server has closed the connection")
+            raise ConnectionError(CLOSED)
         return some
 
     def _no_answer(self) -> NoAnswer:
