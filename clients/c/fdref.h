@@ -174,6 +174,8 @@ int fdref_fileno(const struct fdref *p);
        fdref_record(trace, 0, fdref_act_open("a", O_RDWR | O_CREAT), fdref_result(my_open("a", O_RDWR | O_CREAT)));
        fdref_record(trace, 0, fdref_act_read(0, 9), fdref_result_data(buffer, my_read(0, buffer, 9)));
        fdref_record(trace, 0, fdref_act_exit(), fdref_done());
+       if (fdref_trace_fault(trace))
+           fprintf(stderr, "trace: %s\n", fdref_trace_fault(trace));
        if (fdref_trace_close(trace) != 0)
            perror("trace");
 
@@ -205,6 +207,10 @@ struct fdref_trace *fdref_trace_open_of(const char *path, uint32_t records, uint
 
 /* Writes all records that are gathered to the file, so that they are there though the program is killed. */
 int fdref_trace_flush(struct fdref_trace *trace);
+
+/* The first fault: the record, counted from 0, and what no trace holds of it, as "record 1: flags that no trace holds",
+   or that the file cannot be written. NULL where there was none. */
+const char *fdref_trace_fault(const struct fdref_trace *trace);
 
 /* Writes all records and frees the trace. 0: the file has every record. */
 int fdref_trace_close(struct fdref_trace *trace);
@@ -298,6 +304,7 @@ struct fdref_outcome fdref_result_flags(int result);
 
 #include <limits.h>
 #include <poll.h>
+#include <stdio.h>
 #include <stdlib.h>
 #include <string.h>
 #include <sys/socket.h>
@@ -526,12 +533,17 @@ struct fdref_outcome fdref_result_flags(int result)
 
 /* ---- frames, written */
 
-/* The payload of a frame, after four bytes for its length, and the errno of the first thing that no frame holds. */
+/* The payload of a frame, after four bytes for its length, the errno of the first thing that no frame holds, and what
+   was put last before that. */
 struct fdref_payload {
     unsigned char *bytes;
     size_t size;
     int fault;
+    const char *what;
 };
+
+/* Notes what is put next. */
+static void fdref_put_next(struct fdref_payload *to, const char *what) { to->what = to->fault == 0 ? what : to->what; }
 
 static void fdref_need(struct fdref_payload *to, int is_held, int fault)
 {
@@ -573,12 +585,27 @@ static void fdref_put_flags(struct fdref_payload *to, int flags)
     fdref_put(to, (uint64_t)byte, 1);
 }
 
+/* What a field of a call is, by its letter in `fdref_calls`. */
+static const char *fdref_field_name(char field)
+{
+    switch (field) {
+    case 'f': return "flags";
+    case 's':
+    case 'S': return "a name";
+    case 'b': return "data";
+    case 'n': return "a count";
+    case 'w': return "a base of an offset";
+    default: return "a number";
+    }
+}
+
 static void fdref_put_act(struct fdref_payload *to, const struct fdref_act *act)
 {
     const char *field = fdref_is_call(act->kind) ? fdref_calls[act->kind - FDREF_OPEN].fields : "";
     fdref_need(to, fdref_is_call(act->kind) || (act->kind >= FDREF_JOIN && act->kind <= FDREF_CLOSE_RUN), EINVAL);
     fdref_put(to, (uint64_t)act->kind, 1);
     for (; *field; field++) {
+        fdref_put_next(to, fdref_field_name(*field));
         switch (*field) {
         case 'f': fdref_put_flags(to, act->other); break;
         case 's': fdref_put_name(to, act->name); break;
@@ -858,7 +885,7 @@ static struct fdref *fdref_begin(const char *path, unsigned start, unsigned answ
     struct fdref *p = (struct fdref *)calloc(1, sizeof *p);
     int64_t number = -1;
     if (p && (p->socket = fdref_connect(path, fdref_milliseconds(start), fdref_milliseconds(answer))) >= 0) {
-        struct fdref_payload request = {p->frame + 4, 0, 0};
+        struct fdref_payload request = {p->frame + 4, 0, 0, ""};
         fdref_put(&request, (uint64_t)act, 1);
         if (act == FDREF_ATTACH)
             fdref_put(&request, (uint64_t)child, 4);
@@ -932,7 +959,7 @@ ssize_t fdref_finish(struct fdref *p)
 /* Makes a call, which gives at most this value; what it reads goes into the buffer. */
 static int64_t fdref_ask(struct fdref *p, struct fdref_act act, void *buffer, uint64_t most)
 {
-    struct fdref_payload request = {p->frame + 4, 0, 0};
+    struct fdref_payload request = {p->frame + 4, 0, 0, ""};
     if (p->is_parked)
         return fdref_refuse(p, FDREF_WAITING, EBUSY);
     p->waits = 0;
@@ -1027,9 +1054,12 @@ pid_t fdref_fork(struct fdref *p) { return fdref_ask_int(p, fdref_act_fork()); }
 
 /* ---- traces */
 
-/* A trace: its file, the errno of its first fault, and what is not written yet. */
+/* A trace: its file, the errno of its first fault and what is told of it, how many records it has, and what is not
+   written yet. */
 struct fdref_trace {
     int file, fault;
+    uint64_t records;
+    char told[80];
     size_t size;
     unsigned char frames[131072];
 };
@@ -1042,7 +1072,7 @@ struct fdref_trace *fdref_trace_open(const char *path)
 /* The header of a trace: how many bytes it has, or 0 where it can not be. */
 static size_t fdref_put_header(unsigned char *to, uint32_t records, uint32_t pipe_capacity, uint64_t file_size)
 {
-    struct fdref_payload header = {to, 0, 0};
+    struct fdref_payload header = {to, 0, 0, ""};
     fdref_need(&header, records <= FDREF_RECORDS_MOST, EINVAL);
     fdref_need(&header, pipe_capacity >= FDREF_PIPE_CAPACITY_LEAST, EINVAL);
     fdref_need(&header, pipe_capacity <= FDREF_PIPE_CAPACITY_MOST, EINVAL);
@@ -1086,12 +1116,21 @@ static int fdref_trace_result(int fault)
     return fault != 0 ? -1 : 0;
 }
 
+/* Keeps what is told of the record after those that the trace has. */
+static void fdref_tell(struct fdref_trace *trace, const char *what, const char *why)
+{
+    snprintf(trace->told, sizeof trace->told, "record %llu: %s %s", (unsigned long long)trace->records, what, why);
+}
+
+const char *fdref_trace_fault(const struct fdref_trace *trace) { return trace->fault != 0 ? trace->told : NULL; }
+
 int fdref_trace_flush(struct fdref_trace *trace)
 {
     for (size_t at = 0; at < trace->size;) {
         ssize_t written = write(trace->file, trace->frames + at, trace->size - at);
         if (written == 0 || (written < 0 && errno != EINTR)) {
             trace->fault = written == 0 ? EIO : errno;
+            snprintf(trace->told, sizeof trace->told, "the file cannot be written: %s", strerror(trace->fault));
             break;
         }
         at += written > 0 ? (size_t)written : 0;
@@ -1117,13 +1156,19 @@ int fdref_record(struct fdref_trace *trace, int64_t process, struct fdref_act ac
         fdref_trace_flush(trace);
     if (trace->fault != 0)
         return fdref_trace_result(trace->fault);
-    struct fdref_payload record = {trace->frames + trace->size + 4, 0, 0};
+    struct fdref_payload record = {trace->frames + trace->size + 4, 0, 0, "a process"};
     fdref_need(&record, process >= 0 && process <= FDREF_HOUSE, EINVAL);
     fdref_need(&record, process == FDREF_HOUSE || act.kind != FDREF_CLOSE_RUN, EINVAL);
     fdref_put(&record, (uint64_t)process, 4);
+    fdref_put_next(&record, "an act");
     fdref_put_act(&record, &act);
+    fdref_put_next(&record, "an outcome");
     fdref_put_outcome(&record, &outcome);
     trace->fault = record.fault;
+    if (record.fault == 0)
+        trace->records++;
+    else
+        fdref_tell(trace, record.what, "that no trace holds");
     trace->size += record.fault == 0 ? fdref_end_frame(&record) : 0;
     return fdref_trace_result(trace->fault);
 }

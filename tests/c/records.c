@@ -108,16 +108,20 @@ static void large(struct fdref_trace *to, const char *path)
     CHECK(fdref_trace_close(to) == 0);
 }
 
-/* A record with a fault is refused, and everything after it; what was recorded before is written. */
-static void refuses(const char *path, int64_t process, struct fdref_act act, struct fdref_outcome outcome, int number)
+/* A record with a fault is refused, and everything after it; what was recorded before is written. What it was is
+   told. */
+static void refuses(const char *path, int64_t process, struct fdref_act act, struct fdref_outcome outcome, int number,
+                    const char *what)
 {
     struct fdref_trace *to = fdref_trace_open(path);
-    char head[60];
+    char head[60], told[80];
     FILE *file;
     CHECK(to != NULL);
-    CHECK(fdref_record(to, 0, fdref_act_join(), fdref_number(0)) == 0);
+    CHECK(fdref_record(to, 0, fdref_act_join(), fdref_number(0)) == 0 && fdref_trace_fault(to) == NULL);
     CHECK(fdref_record(to, process, act, outcome) == -1 && errno == number);
     CHECK(fdref_record(to, 0, fdref_act_exit(), fdref_done()) == -1 && errno == number);
+    snprintf(told, sizeof told, "record 1: %s that no trace holds", what);
+    CHECK(strcmp(fdref_trace_fault(to), told) == 0);
     CHECK(fdref_trace_flush(to) == -1 && errno == number);
     CHECK(fdref_trace_close(to) == -1 && errno == number);
     file = fopen(path, "rb");
@@ -163,40 +167,42 @@ static void faults(const char *path)
     struct fdref_trace *to;
     memset(name, 'n', sizeof name);
     name[FDREF_NAME_MOST + 1] = 0;
-    refuses(path, -1, fdref_act_exit(), fdref_done(), EINVAL);
-    refuses(path, FDREF_HOUSE + 1, fdref_act_exit(), fdref_done(), EINVAL);
-    refuses(path, 0, fdref_act_close_run(), fdref_done(), EINVAL);
-    refuses(path, 0, fdref_act_mkfifo(name), fdref_done(), ENAMETOOLONG);
-    refuses(path, 0, fdref_act_mkfifo(NULL), fdref_done(), EINVAL);
-    refuses(path, 0, fdref_act_write(0, bytes, FDREF_DATA_MOST + 1), fdref_number(0), EINVAL);
-    refuses(path, 0, fdref_act_write(0, NULL, 1), fdref_number(0), EINVAL);
-    refuses(path, 0, fdref_act_read(0, 1), fdref_data(bytes, FDREF_TRANSFER_MOST + 1), EINVAL);
-    refuses(path, 0, fdref_act_write(0, bytes, FDREF_DATA_MOST), fdref_data(bytes, FDREF_TRANSFER_MOST), EINVAL);
-    refuses(path, 0, fdref_act_open("a", O_RDWR | O_SYNC), fdref_number(0), EINVAL);
-    refuses(path, 0, fdref_act_setfl(0, O_SYNC), fdref_done(), EINVAL);
-    refuses(path, 0, fdref_act_getfl(0), fdref_result_flags(O_RDWR | O_SYNC), EINVAL);
-    refuses(path, 0, fdref_act_lseek(0, 0, 9), fdref_number(0), EINVAL);
-    refuses(path, 0, fdref_act_rename("a", name), fdref_done(), ENAMETOOLONG);
-    refuses(path, 0, fdref_act_pipe(), fdref_descriptors(-1, 0), EINVAL);
-    refuses(path, 0, fdref_act_pipe(), fdref_descriptors(0, -1), EINVAL);
-    refuses(path, 0, fdref_act_fstat(0), fdref_told(3, 0, 0), EINVAL);
-    refuses(path, 0, fdref_act_fork(), failed(EPERM), EINVAL);
-    refuses(path, 0, fdref_act_fork(), fdref_error(0), EINVAL);
+    refuses(path, -1, fdref_act_exit(), fdref_done(), EINVAL, "a process");
+    refuses(path, FDREF_HOUSE + 1, fdref_act_exit(), fdref_done(), EINVAL, "a process");
+    refuses(path, 0, fdref_act_close_run(), fdref_done(), EINVAL, "a process");
+    refuses(path, 0, fdref_act_mkfifo(name), fdref_done(), ENAMETOOLONG, "a name");
+    refuses(path, 0, fdref_act_mkfifo(NULL), fdref_done(), EINVAL, "a name");
+    refuses(path, 0, fdref_act_write(0, bytes, FDREF_DATA_MOST + 1), fdref_number(0), EINVAL, "data");
+    refuses(path, 0, fdref_act_write(0, NULL, 1), fdref_number(0), EINVAL, "data");
+    refuses(path, 0, fdref_act_read(0, 1), fdref_data(bytes, FDREF_TRANSFER_MOST + 1), EINVAL, "an outcome");
+    refuses(path, 0, fdref_act_write(0, bytes, FDREF_DATA_MOST), fdref_data(bytes, FDREF_TRANSFER_MOST), EINVAL,
+            "an outcome");
+    refuses(path, 0, fdref_act_open("a", O_RDWR | O_SYNC), fdref_number(0), EINVAL, "flags");
+    refuses(path, 0, fdref_act_setfl(0, O_SYNC), fdref_done(), EINVAL, "flags");
+    refuses(path, 0, fdref_act_getfl(0), fdref_result_flags(O_RDWR | O_SYNC), EINVAL, "an outcome");
+    refuses(path, 0, fdref_act_lseek(0, 0, 9), fdref_number(0), EINVAL, "a base of an offset");
+    refuses(path, 0, fdref_act_rename("a", name), fdref_done(), ENAMETOOLONG, "a name");
+    refuses(path, 0, fdref_act_pipe(), fdref_descriptors(-1, 0), EINVAL, "an outcome");
+    refuses(path, 0, fdref_act_pipe(), fdref_descriptors(0, -1), EINVAL, "an outcome");
+    refuses(path, 0, fdref_act_fstat(0), fdref_told(3, 0, 0), EINVAL, "an outcome");
+    refuses(path, 0, fdref_act_fork(), failed(EPERM), EINVAL, "an outcome");
+    refuses(path, 0, fdref_act_fork(), fdref_error(0), EINVAL, "an outcome");
     if (sizeof(size_t) > 4)
-        refuses(path, 0, fdref_act_read(0, (size_t)UINT32_MAX + 1), fdref_done(), EINVAL);
+        refuses(path, 0, fdref_act_read(0, (size_t)UINT32_MAX + 1), fdref_done(), EINVAL, "a count");
     for (act.kind = -1; act.kind <= FDREF_RENAME + 1; act.kind++)
         if (act.kind < FDREF_JOIN || (act.kind > FDREF_CLOSE_RUN && act.kind < FDREF_OPEN) || act.kind > FDREF_RENAME)
-            refuses(path, 0, act, fdref_done(), EINVAL);
+            refuses(path, 0, act, fdref_done(), EINVAL, "an act");
     outcome.kind = 0;
-    refuses(path, 0, fdref_act_fork(), outcome, EINVAL);
+    refuses(path, 0, fdref_act_fork(), outcome, EINVAL, "an outcome");
     outcome.kind = FDREF_PART + 1;
-    refuses(path, 0, fdref_act_fork(), outcome, EINVAL);
+    refuses(path, 0, fdref_act_fork(), outcome, EINVAL, "an outcome");
 
     CHECK(fdref_trace_open("/no/such/file") == NULL && errno == ENOENT);
     to = fdref_trace_open("/dev/full");
     CHECK(to != NULL && fdref_record(to, 0, fdref_act_exit(), fdref_done()) == 0);
     CHECK(fdref_trace_flush(to) == -1 && errno == ENOSPC);
     CHECK(fdref_record(to, 0, fdref_act_exit(), fdref_done()) == -1 && errno == ENOSPC);
+    CHECK(strncmp(fdref_trace_fault(to), "the file cannot be written: ", 28) == 0);
     CHECK(fdref_trace_close(to) == -1 && errno == ENOSPC);
 }
 
