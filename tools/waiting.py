@@ -7,7 +7,7 @@ TRACE is a file that `fdref serve` has written, or is writing still: where a ser
 what its clients wait for. Of each process that is there a line says in what call it waits, since which record, and who
 has the other end of the pipe or FIFO; or that the call can go on, so that its resume is due; that it waits in no call;
 or that it was forked and has no connection. The last line counts them. What a server has answered stands in TRACE about
-a millisecond later.
+a millisecond later. Whether a client reads its answers it does not tell: one that does not waits in no call.
 
 Exit status: 0 where a process that has a connection can go on, or there is none; 1 where all of them wait, and the call
 of none can go on; 2 for wrong words; 3 where TRACE cannot be read, or is malformed or illegal.
