@@ -1,7 +1,8 @@
 """Pipes whose writing end a system gives the lower number.
 
-The page of pipe, by XSH 2.14, asks for the two lowest numbers, and not for their order. In fdref the reading end has the
-lower one. There the ends change places after such a pipe, by calls that nobody else sees: a dup, two dup2 and a close.
+The page of pipe, by XSH 2.14, asks for the two lowest numbers, and not for their order. In fdref the reading end has
+the lower one. There the ends change places after such a pipe, by calls that nobody else sees: a dup, two dup2 and a
+close.
 """
 
 from collections.abc import Sequence

@@ -158,7 +158,7 @@ def join(path: str | os.PathLike[str], within: float = 0) -> Process:
 
     `within` is in seconds. A server that is only starting is waited for so long, and its first answer no longer than
     that from the call on; where it is 0 the server has to be there, and its first answer is waited for FIRST_ANSWER
-    seconds. NoPlace: the connection was made, and no answer came. ConnectionResetError: the server ended before it came.
+    seconds. NoPlace: the connection was made, and no answer came. ConnectionResetError: the server ended before that.
     """
     return Process(path, b"\x01", within=within)
 
