@@ -473,7 +473,8 @@ def cases(program: str) -> Iterator[Case]:
     yield "a pipe of 511 bytes", partial(fails, program, ROOMY, 2, "from 512 to 65536", "--pipe-capacity", "511")
     wrong = ROOMY.replace("70 80 p0 write 1 61*600 = 600", "70 80 p0 read 0 9 = x")
     four = f"{PIPED}4 5 p0 fork = 1\n6 7 p1 attach = ok\n8 9 p0 setfl 1 -,nonblock = ok\n"
-    four += "10 11 p0 write 1 61*9000 = 4096\n12 20 p0 write 1 x61 = error EAGAIN\n15 18 p1 write 1 x61 = error EAGAIN\n"
+    four += "10 11 p0 write 1 61*9000 = 4096\n12 20 p0 write 1 x61 = error EAGAIN\n"
+    four += "15 18 p1 write 1 x61 = error EAGAIN\n"
     hint = "perhaps: room of a pipe (own; page of write); "
     hint += "--pipe-capacity tells how many bytes a pipe of the system holds"
     yield "a pipe of 4,096 bytes", partial(ends_with, program, four, 1, hint)
