@@ -28,6 +28,7 @@ from functools import partial
 from pathlib import Path
 from typing import Any
 
+from parts import asked_drivers
 from stand_ins import wrong_oracle
 from support.counting import Case, Count, Failure, require
 from support.drivers import IS_LINUX, NOT_AN_ACT, Driver
@@ -586,6 +587,7 @@ def is_wrong_system(bench: Bench, library: str, way: str) -> None:
 def all_cases(bench: Bench) -> Iterator[Case]:
     """All cases, in their order."""
     yield from ((name, partial(check, bench)) for name, check in CASES)
+    yield from asked_drivers.cases(bench.program, os.path.dirname(bench.driver))
     yield from row_cases(bench)
     yield from random_scripts(bench)
     yield from rules(bench)

@@ -38,6 +38,7 @@ from typing import Self
 from support import plain_model, summaries
 from support.commands import add_capacity, add_program, capacity_words, program_of
 from support.drivers import compiled
+from support.ordering import ENDS_OF_WAITING
 from support.plain_scripts import plain_line
 from support.plain_model import Limits
 from support.running import CannotRun
@@ -193,8 +194,18 @@ def told(difference: Difference) -> str:
     line = difference.lines[difference.place]
     parts += [f"system: {line.place} {line.act} = {difference.system}"]
     parts += [f"fdref:  {line.place} {line.act} = {difference.fdref}"]
-    parts += [told_reason(difference.reason)]
+    parts += [told_reason(difference.reason), *told_waiting(difference)]
     return "\n".join(map(clipped, parts))
+
+
+def told_waiting(difference: Difference) -> list[str]:
+    """Of a call that waits on in the system alone, what the standard says of its waiting."""
+    if not difference.words("resume") or difference.system != "still":
+        return []
+    who = f"p{difference.act.actor}"
+    before = [line for line in difference.lines[: difference.place] if line.act.startswith(f"{who} ")]
+    calls = [line.act.split(" ")[1] for line in before if line.outcome.startswith("parked ")]
+    return [f"{who} is not woken; {ENDS_OF_WAITING[call]}" for call in calls[-1:]]
 
 
 def short(asked: Asked, lines: list[bytes]) -> list[bytes]:

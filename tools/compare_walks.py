@@ -6,16 +6,17 @@ from collections.abc import Callable, Iterator
 from support import plain_model, walks
 from support.contents import BLOCK
 from support.plain_model import DEFAULTS, OPEN_MAX, TRANSFER_MAX, Limits
-from support.runs import Settled
+from support.runs import Settled, line_of
 
+from compare_lines import is_told_back
 from compare_reasons import is_append, process_of
 
 # ---- looks
 
 
 def with_looks(lines: list[bytes], limits: Limits = DEFAULTS) -> list[bytes]:
-    """A script with acts that look at what a pwrite under append did, at calls that wait on from before a setfl and, at
-    the end, at all that is there."""
+    """A script with acts that look at what a pwrite under append did, at calls that wait on from before a setfl, at each
+    call that can go on because of an act and, at the end, at all that is there."""
     beside = Settled(limits)
     looked: list[bytes] = []
     for line in lines:
@@ -24,18 +25,28 @@ def with_looks(lines: list[bytes], limits: Limits = DEFAULTS) -> list[bytes]:
         looked.append(line)
         if process and act.word == "pwrite" and is_append(act, process.table.get(act.fields[0])):
             looked.append(b"p%d fstat %d" % (process.number, act.fields[0]))
-        elif act.word == "setfl":
-            looked += [b"p%d resume" % it.number for it in beside.world.processes.values() if it.waits]
+        seen = len(beside.lines)
         beside.take(act)
+        at_waits = {number for number, it in beside.world.processes.items() if it.waits} if act.word == "setfl" else set()
+        looked += [b"p%d resume" % number for number in sorted(at_waits | come_back(beside, seen))]
     return looked + [text.encode() for text in last_looks(beside.world)]
 
 
+def come_back(beside: Settled, seen: int) -> set[int]:
+    """The processes whose calls came back in the lines of a run after so many: where a system wakes one of them too late
+    or never, it waits on there."""
+    told = map(line_of, beside.lines[seen:])
+    back = {line.number() for line in told if is_told_back(line)}
+    return {number for number in back if not beside.world.processes[number].waits}
+
+
 def last_looks(world: plain_model.World) -> list[str]:
-    """Acts that look at all that can be reached in a world, at the contents of pipes last."""
+    """Acts that look at all that can be reached in a world, at the contents of pipes last. Whether a process waits is
+    asked of each, since one that does not wait in this world may wait on a system."""
     live = list(world.processes.values())
     awake = [it for it in live if not it.waits]
     looks = [f"p{it.number} attach" for it in live if not it.attached]
-    looks += [f"p{it.number} resume" for it in live if it.waits]
+    looks += [f"p{it.number} resume" for it in live]
     for it in awake:
         for fd, at in sorted(it.table.items()):
             looks.append(f"p{it.number} getfl {fd}")
@@ -47,7 +58,7 @@ def last_looks(world: plain_model.World) -> list[str]:
     looks += [
         f"p{it.number} close {fd}" for it in awake for fd, at in sorted(it.table.items()) if at.pipe and at.mode == "w"
     ]
-    looks += [f"p{it.number} exit" for it in live if it.waits]
+    looks += [f"p{it.number} {word}" for word in ("resume", "exit") for it in live if it.waits]
     reads = [(it.number, fd) for it in awake for fd, at in sorted(it.table.items()) if at.pipe and at.mode == "r"]
     return looks + [f"p{number} read {fd} {count}" for number, fd in reads for count in (TRANSFER_MAX, 1)]
 

@@ -23,11 +23,11 @@ def is_large(process: plain_model.Process) -> bool:
     return isinstance(process.waits, plain_model.WaitingWrite) and not process.waits.is_whole
 
 
-def main() -> None:
-    """Runs the script, and prints its lines."""
-    run = Settled()
+def lines_of(script: bytes, limits: plain_model.Limits = plain_model.DEFAULTS) -> list[str]:
+    """The lines of a script, on a system that has these limits."""
+    run = Settled(limits)
     told: list[tuple[str, str, str]] = []
-    for line in sys.stdin.buffer.read().split(b"\n"):
+    for line in script.split(b"\n"):
         if not line:
             continue
         before = len(run.lines)
@@ -43,10 +43,14 @@ def main() -> None:
             large = [number for number, process in run.world.processes.items() if is_large(process)]
             told += [("", f"p{number} resume", "?") for number in large]
     places = iter(range(len(told)))
-    for place, act, outcome in told:
-        print(f"{'-' if place == '-' else next(places)} {act} = {outcome}")
+    lines = [f"{'-' if place == '-' else next(places)} {act} = {outcome}" for place, act, outcome in told]
     bytes_in = "?" if any(map(is_large, run.world.processes.values())) else run.world.bytes_in
-    print(f"records {next(places, len(told))} in {bytes_in} out {run.world.bytes_out}")
+    return [*lines, f"records {next(places, len(told))} in {bytes_in} out {run.world.bytes_out}"]
+
+
+def main() -> None:
+    """Runs the script, and prints its lines."""
+    print("\n".join(lines_of(sys.stdin.buffer.read())))
 
 
 if __name__ == "__main__":

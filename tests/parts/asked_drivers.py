@@ -1,0 +1,73 @@
+"""What tools/compare.py tells of wrong systems, and of drivers that are wrong themselves: scripts stand in for them."""
+
+import shlex
+import sys
+from collections.abc import Iterator, Sequence
+from functools import partial
+from pathlib import Path
+
+from support.counting import Case, require, same
+from support.places import STAND_INS, TOOLS
+from support.running import Ran, run
+
+SECONDS = 60
+
+
+def compared(program: str, folder: str, way: str, script: str, words: Sequence[str] = ()) -> Ran:
+    """Runs tools/compare.py on a script, which a driver runs that is wrong in a way."""
+    path = Path(folder, "asked.script")
+    path.write_text(script)
+    driver = shlex.join([sys.executable, str(STAND_INS / "wrong_driver.py"), way])
+    command = [sys.executable, str(TOOLS / "compare.py"), "--program", program, "--ask", driver]
+    return run([*command, *words, str(path)], seconds=SECONDS)
+
+
+# ---- calls that are not woken
+
+FORKED = "join\np0 pipe\np0 fork\np1 attach\n"
+# Scripts in which a call can go on at last, and the page that says when it does. After the first one all are awake.
+SLEEPS = {
+    "write-wakes-nobody": (
+        f"{FORKED}p0 read 0 1\np1 write 1 x61\np0 open a w,creat\np0 write 2 x6162\np0 fstat 2\n",
+        "p0 is not woken; page of read: it waits until there are data, or no writer",
+    ),
+    "last-writer-wakes-nobody": (
+        f"{FORKED}p1 close 1\np1 read 0 1\np0 close 1\n",
+        "p1 is not woken; page of read: it waits until there are data, or no writer",
+    ),
+    "read-wakes-nobody": (
+        f"{FORKED}p0 write 1 61*1024\np0 write 1 x61\np1 read 0 1024\np1 read 0 1\n",
+        "p0 is not woken; page of write: it waits until there is room, or no reader",
+    ),
+    "last-reader-wakes-nobody": (
+        f"{FORKED}p0 close 0\np0 write 1 61*1024\np0 write 1 x61\np1 close 0\n",
+        "p0 is not woken; page of write: it waits until there is room, or no reader",
+    ),
+    "open-wakes-nobody": (
+        "join\njoin\np0 mkfifo f\np0 open f r\np1 open f w\np1 close 0\n",
+        "p0 is not woken; page of open: it waits until the other end is opened",
+    ),
+}
+
+
+def sleep_is_told(program: str, folder: str, way: str, script: str, page: str) -> None:
+    """A process that is never woken is a difference without a reason, at the act that should wake it."""
+    same(0, compared(program, folder, "none", script).status)
+    done = compared(program, folder, way, script)
+    require(done.status == 1, done.said())
+    lines = done.stdout.decode().splitlines()
+    place = next(place for place, line in enumerate(lines) if line.startswith("system: "))
+    require(lines[place].endswith(" resume = still"), f"{lines}")
+    same(["reason: none", page], lines[place + 2 : place + 4])
+
+
+# a reader that the closing of the last writer does not wake is seen in the looks at the end, too
+ENDED = f"{FORKED}p1 close 1\np1 read 0 1\n"
+
+
+def cases(program: str, folder: str) -> Iterator[Case]:
+    """All of them."""
+    for way, (script, page) in SLEEPS.items():
+        yield way, partial(sleep_is_told, program, folder, way, script, page)
+    way = "last-writer-wakes-nobody"
+    yield f"{way}, in the end", partial(sleep_is_told, program, folder, way, ENDED, SLEEPS[way][1])
