@@ -20,7 +20,7 @@ not a hundred. A random script with a difference without a reason is shrunk.
 
 The last lines count the differences by reason, and tell which acts were struck: they were not compared further. Exit
 status: 0 where each difference had a reason, 1 where one had none, 2 for wrong words and where no script is found, 3
-where a script could not be run. docs/KERNELS.md has more.
+where a script could not be run, or what is printed for it is not its run. docs/KERNELS.md has more.
 """
 
 import argparse
@@ -47,8 +47,9 @@ from support.shrinking import shrunk
 from support.summaries import Counts, add_summary
 from support.texts import several
 
-from compare_lines import Asked, act_of, ends_of_closing, first_unfit, in_other_order, is_told_back
+from compare_lines import Asked, first_unfit, in_other_order
 from compare_reasons import REASONS, Difference, follows_append, reason_of, told_reason
+from compare_runs import act_of, check_alike, ends_of_closing, is_told_back, places_of_script
 from compare_walks import CLASSES, class_of, random_lines, with_looks
 
 LINES_BEFORE = 12
@@ -115,8 +116,7 @@ def compared(asked: Asked, lines: list[bytes]) -> tuple[list[Line], list[Differe
         if reordered:
             system, fdref, beside = reordered, asked.fdref(reordered), Beside(reordered, asked.limits)
             continue
-        if place >= min(len(system), len(fdref)):
-            raise CannotRun("the two runs have different numbers of lines")
+        check_alike(system, fdref, place)
         difference = Difference(place, system, system[place], fdref[place], beside.world_before(place))
         difference.reason = reason_of(difference)
         # no reason excuses an fdref that the model contradicts
@@ -127,12 +127,6 @@ def compared(asked: Asked, lines: list[bytes]) -> tuple[list[Line], list[Differe
         if not difference.reason or not difference.is_settled():
             return system, found
         known.add(place)
-
-
-def places_of_script(system: list[Line]) -> list[int]:
-    """The places of the lines that stand for the acts of a script."""
-    ends = ends_of_closing(system)
-    return [place for place, line in enumerate(system) if line.act and not is_told_back(line) and place not in ends]
 
 
 def struck(lines: list[Numbered], system: list[Line], difference: Difference) -> list[Numbered]:
@@ -294,6 +288,7 @@ class Totals:
         met = [it for it in REASONS if self.by_reason[it.name]]
         lines += [f"{self.by_reason[it.name]:8} {it.name} ({it.who}; {it.page})" for it in met]
         lines += [f"{self.unexplained:8} without a reason"]
+        lines += [f"{self.failed:8} not compared"] if self.failed else []
         lines += self.struck.told("act was struck and not compared", "acts were struck and not compared")
         lines += self.last.told("time the rest was not compared, after", "times the rest was not compared, after")
         return "\n".join(lines)

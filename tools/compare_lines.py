@@ -12,37 +12,13 @@ from support.plain_model import DEFAULTS, TRANSFER_MAX, Limits
 from support.running import CannotRun, run
 from support.runs import ALL_RECORDS, Line, line_of
 
+from compare_runs import act_of, ends_of_closing, is_told_back, run_of
+
 SECONDS = 120
 ORDERS_MOST = 150
 
 
 # ---- lines of a run
-
-
-def act_of(line: Line) -> str:
-    """A line's act, as it stands in a script."""
-    word = line.act.partition(" ")[2]
-    return word if word in ("join", "close-run") else line.act
-
-
-def is_told_back(line: Line) -> bool:
-    """Whether a line tells that a call came back: no act of the script stands for it."""
-    return line.act.endswith(" resume") and line.place != "-"
-
-
-def ends_of_closing(lines: list[Line]) -> set[int]:
-    """The places of the exits that closing the run has made."""
-    unattached: set[str] = set()
-    found: set[int] = set()
-    for place, line in enumerate(lines):
-        who, _, word = line.act.partition(" ")
-        if word == "fork" and line.outcome.isdigit():
-            unattached.add(f"p{line.outcome}")
-        elif word == "attach" and line.outcome == "ok":
-            unattached.discard(who)
-        elif word == "exit" and who in unattached and line.place != "-":
-            found.add(place)
-    return found
 
 
 def moved(outcome: str) -> int:
@@ -88,19 +64,15 @@ class Asked:
         self.has_same_room = self.room() == limits.capacity
         self.counts_bytes = self.room(3_000, 3_000) == self.room()
 
-    def run(self, words: list[str], script: bytes, who: str) -> list[Line]:
-        """The lines that one of the two prints on a script."""
+    def run(self, words: list[str], script: bytes, who: str) -> bytes:
+        """What one of the two prints on a script."""
         try:
             done = run(words, script, seconds=SECONDS)
         except (Failure, OSError) as fault:
             raise CannotRun(f"{who}: {fault}") from None
         if done.status != 0:
             raise CannotRun(f"{who} ends with status {done.status}: {done.stderr.decode('ascii', 'replace').strip()}")
-        lines = [line_of(line) for line in done.stdout.decode("ascii").splitlines()]
-        if any(line.outcome == "?" for line in lines):
-            # a resume that is told as `?` may be none, so the number of records is not known
-            lines[-1] = lines[-1]._replace(outcome=lines[-1].outcome.replace(lines[-1].outcome.split(" ")[1], "?", 1))
-        return lines
+        return done.stdout
 
     def room(self, *sizes: int) -> int:
         """How many bytes go into an empty pipe of the system by writes of these sizes and one of 65,536, or 65,536
@@ -110,9 +82,14 @@ class Asked:
         outcomes = [line.outcome for line in self.system(lines)[4:-1]]
         return min(sum(map(moved, outcomes)), TRANSFER_MAX)
 
-    def system(self, lines: list[bytes]) -> list[Line]:
+    def system(self, script: list[bytes]) -> list[Line]:
         """The run of a script as it happened."""
-        return self.run(self.driver, b"".join(line + b"\n" for line in lines), "ask_kernel")
+        text = b"".join(line + b"\n" for line in script)
+        lines = run_of(script, self.run(self.driver, text, "ask_kernel"))
+        if any(line.outcome == "?" for line in lines):
+            # a resume that is told as `?` may be none, so the number of records is not known
+            lines[-1] = lines[-1]._replace(outcome=lines[-1].outcome.replace(lines[-1].outcome.split(" ")[1], "?", 1))
+        return lines
 
     def fault(self, path: str) -> str:
         """The fault of a script, as fdref tells it: its line, its column and what could stand there."""
@@ -130,7 +107,7 @@ class Asked:
         script = "".join(act_of(line) + "\n" for place, line in enumerate(lines) if line.act and place not in ends)
         records = min(2 * len(lines) + 200, ALL_RECORDS)
         words = [*self.program, "replay", "--records", str(records), *capacity_words(self.limits)]
-        return self.run(words, script.encode(), "fdref")
+        return [line_of(line) for line in self.run(words, script.encode(), "fdref").decode("ascii").splitlines()]
 
 
 def first_unfit(asked: Asked, system: list[Line], fdref: list[Line], known: set[int]) -> int | None:

@@ -8,8 +8,8 @@ from support.contents import BLOCK
 from support.plain_model import DEFAULTS, OPEN_MAX, TRANSFER_MAX, Limits
 from support.runs import Settled, line_of
 
-from compare_lines import is_told_back
 from compare_reasons import is_append, process_of
+from compare_runs import is_told_back
 
 # ---- looks
 

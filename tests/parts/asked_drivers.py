@@ -65,9 +65,45 @@ def sleep_is_told(program: str, folder: str, way: str, script: str, page: str) -
 ENDED = f"{FORKED}p1 close 1\np1 read 0 1\n"
 
 
+# ---- what is no run of the script
+
+ACTS = "join\np0 open Z9 rw,creat\np0 write 0 x6162\np0 pread 0 0 9\np0 unlink Z9\np0 close 0\n"
+CLOSED = "join\np0 fork\nclose-run\n"
+# Drivers whose lines are not compared, and what is told of them.
+NO_RUNS = {
+    "runs-nothing": (ACTS, "ask_kernel did not run `join`, nor 4 acts after it"),
+    "runs-six-lines": (ACTS, "ask_kernel did not run `p0 write 1 61*65536`"),
+    "runs-no-unlink": (ACTS, "ask_kernel did not run `p0 unlink Z9`: line 5 has `p0 close 0`"),
+    "runs-more": (ACTS, "ask_kernel: line 6 is no act of the script: `p0 close 0`"),
+    "prints-nothing": (ACTS, "ask_kernel does not print `records R in I out O` in the end; its last line is ''"),
+    "prints-no-totals": (ACTS, "ask_kernel does not print `records R in I out O` in the end; its last line is '# rec"),
+    "prints-a-check-mark": (ACTS, "ask_kernel: line 1 is no line of a run: '\\xe2\\x9c\\x93 up'"),
+    "prints-a-panic": (ACTS, "its last line is 'panic: page fault'"),
+    "prints-another-word": (
+        ACTS,
+        "ask_kernel: line 4 has no act: `p0 pread64 0 0 9`, where the script has `p0 pread 0 0 9`",
+    ),
+    "prints-another-name": (
+        ACTS,
+        "line 2 spells an act otherwise than docs/FORMATS.md: `p0 open Z%39 rw,creat`, not `p0 open Z9 rw,creat`",
+    ),
+    "prints-no-closing": (CLOSED, "line 3 has `house close-run`, where closing the run gives `p1 exit`"),
+}
+
+
+def is_no_run(program: str, folder: str, way: str, script: str, told: str) -> None:
+    """What a driver prints that is not the run of the script is not compared, and it is told why."""
+    same(0, compared(program, folder, "none", script).status)
+    done = compared(program, folder, way, script)
+    require(done.status == 3 and told in (done.stdout + done.stderr).decode(), done.said())
+    require(b"Traceback" not in done.stderr, done.said())
+
+
 def cases(program: str, folder: str) -> Iterator[Case]:
     """All of them."""
     for way, (script, page) in SLEEPS.items():
         yield way, partial(sleep_is_told, program, folder, way, script, page)
     way = "last-writer-wakes-nobody"
     yield f"{way}, in the end", partial(sleep_is_told, program, folder, way, ENDED, SLEEPS[way][1])
+    for way, (script, text) in NO_RUNS.items():
+        yield way, partial(is_no_run, program, folder, way, script, text)

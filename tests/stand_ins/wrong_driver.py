@@ -8,6 +8,7 @@ It is tests/stand_ins/settled_driver.py, made wrong in the way that is named, or
 takes it in the place of ask_kernel: --ask 'tests/stand_ins/wrong_driver.py WAY'.
 """
 
+import re
 import sys
 from collections.abc import Callable
 from pathlib import Path
@@ -29,16 +30,42 @@ SLEEPS: dict[str, tuple[type, Callable[..., bool]]] = {
 }
 
 
+def without(script: bytes, word: bytes) -> bytes:
+    """A script without the acts that have a word."""
+    return b"".join(line for line in script.splitlines(keepends=True) if word not in line)
+
+
+# Drivers that do not run their whole script: what they run of it.
+LEFT_OUT: dict[str, Callable[[bytes], bytes]] = {
+    "runs-nothing": lambda script: b"",
+    "runs-six-lines": lambda script: b"".join(script.splitlines(keepends=True)[:6]),
+    "runs-no-unlink": lambda script: without(script, b" unlink "),
+    "runs-more": lambda script: script + b"p0 close 0\n",
+}
+# Drivers that print no lines of a run: what they make of these.
+PRINTED: dict[str, Callable[[str], str]] = {
+    "prints-nothing": lambda text: "",
+    "prints-no-totals": lambda text: text.replace("\nrecords", "\n# records"),
+    "prints-a-check-mark": lambda text: f"\u2713 up\n{text}",
+    "prints-a-panic": lambda text: "panic: page fault\n",
+    "prints-another-word": lambda text: text.replace(" pread ", " pread64 "),
+    "prints-another-name": lambda text: text.replace(" Z9 ", " Z%39 "),
+    "prints-no-closing": lambda text: re.sub(r"(?m)^\d+ p1 exit = ok\n", "", text),
+}
+
+
 def main(words: list[str]) -> int:
     """Prints what is asked for: the exit status."""
     if words == ["--list"]:
-        print("\n".join(SLEEPS))
+        print("\n".join([*SLEEPS, *LEFT_OUT, *PRINTED]))
         return 0
     (way,) = words
     if way in SLEEPS:
         kind, is_ready = SLEEPS[way]
         setattr(kind, "is_ready", is_ready)
-    print("\n".join(lines_of(sys.stdin.buffer.read())))
+    script = LEFT_OUT.get(way, bytes)(sys.stdin.buffer.read())
+    text = "".join(f"{line}\n" for line in lines_of(script))
+    sys.stdout.buffer.write(PRINTED.get(way, str)(text).encode())
     return 0
 
 
