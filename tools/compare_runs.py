@@ -4,17 +4,23 @@ cannot be compared with fdref."""
 import itertools
 import re
 from collections.abc import Sequence
-from typing import NoReturn
+from typing import NamedTuple, NoReturn
 
 from support import plain_model
+from support.histories import ERROR, NOT_ASKED, NUMBER, PATTERNS, given_by
 from support.outcomes import script_line
 from support.running import CannotRun
 from support.runs import Line, line_of
 from support.texts import several, shown
 
+# What is not seen of a write that waits.
+UNSEEN = "?"
 LINE = re.compile(rb"(?:-|0|[1-9][0-9]*) \S.* = \S.*")
 TOTALS = re.compile(rb"records [0-9]+ in (?:[0-9]+|\?) out [0-9]+")
 TOTALS_FORM = "`records R in I out O`"
+# The outcomes of acts that leave no record, and the calls that may wait.
+NO_RECORD = ("still", "refused NotHere", "refused Waiting")
+MAY_WAIT = ("open", "read", "write")
 # How much of a line is shown.
 SHOWN = 120
 
@@ -61,6 +67,7 @@ def run_of(script: Sequence[bytes], output: bytes) -> list[Line]:
     """The lines of the run of a script, of which a driver has printed this. Fails where it is not that run."""
     lines = lines_of(output)
     check_acts(script, lines)
+    Outcomes().check(lines)
     return lines
 
 
@@ -101,6 +108,95 @@ def check_act(place: int, given: str, line: bytes) -> None:
     if is_same:
         wrong(place, f"spells an act otherwise than docs/FORMATS.md: {told(given)}, not {told(wanted)}")
     raise CannotRun(f"ask_kernel did not run {told(wanted)}: line {place + 1} has {told(given)}")
+
+
+class Waiting(NamedTuple):
+    """A call that waits: its word, and whether it is not seen how many bytes it has moved."""
+
+    word: str
+    is_unseen: bool
+
+
+class Outcomes:
+    """The lines of a run up to one, as far as they decide what the next may say."""
+
+    def __init__(self) -> None:
+        self.records = 0
+        self.waiting: dict[str, Waiting] = {}
+        # how many writes of which it is not seen how much went in have not come back
+        self.unseen = 0
+
+    def check(self, lines: Sequence[Line]) -> None:
+        """Fails unless each line has an outcome that it may have."""
+        for place, line in enumerate(lines[:-1]):
+            expected = self.expected(line)
+            if expected:
+                wrong(place, f"gives `{line.outcome}` for {told(line.act)}; expected {expected}")
+        _, records, _, bytes_in, *_ = lines[-1].outcome.split(" ")
+        if int(records) != self.records:
+            wrong(len(lines) - 1, f"tells of {several(int(records), 'record')}, and {self.records} are before it")
+        if bytes_in == UNSEEN and not self.unseen:
+            wrong(len(lines) - 1, "does not tell the bytes that were written, and no write of more than 512 bytes waits")
+
+    def expected(self, line: Line) -> str:
+        """What a line could say that does not say it, or nothing."""
+        if line.place == "-":
+            return "" if line.outcome in NO_RECORD else f"{', '.join(NO_RECORD)}, or a place of a record"
+        if int(line.place) != self.records:
+            return f"it at place {self.records}"
+        self.records += 1
+        who, word, *_ = line.act.split(" ")
+        waits = self.waiting.pop(who, None)
+        self.unseen -= waits is not None and waits.is_unseen and word == "resume"
+        return self.expected_back(line, who, waits) if word == "resume" else self.expected_first(line, who, word)
+
+    def expected_first(self, line: Line, who: str, word: str) -> str:
+        """What could be said of a call, or of another act, that is made."""
+        if line.outcome == NOT_ASKED and may_be_unasked(line):
+            return ""
+        if line.outcome.startswith("parked ") and word in MAY_WAIT:
+            return self.expected_of_waiting(line, who, Waiting(word, line.outcome.endswith(UNSEEN)))
+        waits = ", or that it waits" if word in MAY_WAIT else ""
+        return "" if is_given(word, line.outcome) else f"{given_by(word)}, an error, as error EBADF{waits}"
+
+    def expected_of_waiting(self, line: Line, who: str, waits: Waiting) -> str:
+        """What could be said of a call that begins to wait."""
+        self.waiting[who] = waits
+        self.unseen += waits.is_unseen
+        if waits.word != "write":
+            return "" if line.outcome == "parked 0" else "parked 0"
+        if waits.is_unseen:
+            data = plain_model.read_data(line.act.split(" ")[3].encode()) or b""
+            return "" if len(data) > plain_model.PIPE_BUF else "parked 0, since it has no more than 512 bytes"
+        return "" if re.fullmatch(f"parked {NUMBER}", line.outcome) else "parked N, with N bytes moved"
+
+    def expected_back(self, line: Line, who: str, waits: Waiting | None) -> str:
+        """What could be said of a call that waited, and has come back or moved on."""
+        if not waits:
+            return f"it of a process that waits, which {who} does not"
+        is_part = waits.word == "write" and re.fullmatch(f"part {NUMBER}", line.outcome) is not None
+        if is_part or (waits.is_unseen and line.outcome == UNSEEN):
+            self.waiting[who] = waits
+            self.unseen += waits.is_unseen
+            return ""
+        return "" if is_given(waits.word, line.outcome) else f"{given_by(waits.word)}, or an error, as error EPIPE"
+
+
+def is_given(word: str, outcome: str) -> bool:
+    """Whether an act may come to this: an error or what it gives, as docs/FORMATS.md spells it."""
+    if not re.fullmatch(f"{PATTERNS.get(given_by(word), NUMBER)}|{ERROR}", outcome):
+        return False
+    data = plain_model.read_data(outcome.encode()) if given_by(word) == plain_model.DATA else None
+    return data is None or plain_model.data_text(data) == outcome
+
+
+def may_be_unasked(line: Line) -> bool:
+    """Whether a driver need not make a call: its name leads out of the folder, or it opens for nothing."""
+    act = plain_model.read_act(act_of(line).encode())
+    fields = list(zip(plain_model.FIELDS.get(act.word, ()), act.fields, strict=True))
+    names = [value for reader, value in fields if reader is plain_model.read_name]
+    leads_out = any(name in (b".", b"..") or b"/" in name or b"\0" in name for name in names)
+    return leads_out or (act.word == "open" and act.fields[1].startswith("-"))
 
 
 def check_alike(system: Sequence[Line], fdref: Sequence[Line], place: int) -> None:

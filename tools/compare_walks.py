@@ -15,8 +15,8 @@ from compare_runs import is_told_back
 
 
 def with_looks(lines: list[bytes], limits: Limits = DEFAULTS) -> list[bytes]:
-    """A script with acts that look at what a pwrite under append did, at calls that wait on from before a setfl, at each
-    call that can go on because of an act and, at the end, at all that is there."""
+    """A script with acts that look at what a pwrite under append did, at calls that wait on from before a setfl, at
+    each call that can go on because of an act and, at the end, at all that is there."""
     beside = Settled(limits)
     looked: list[bytes] = []
     for line in lines:
@@ -27,14 +27,16 @@ def with_looks(lines: list[bytes], limits: Limits = DEFAULTS) -> list[bytes]:
             looked.append(b"p%d fstat %d" % (process.number, act.fields[0]))
         seen = len(beside.lines)
         beside.take(act)
-        at_waits = {number for number, it in beside.world.processes.items() if it.waits} if act.word == "setfl" else set()
-        looked += [b"p%d resume" % number for number in sorted(at_waits | come_back(beside, seen))]
+        looked_at = come_back(beside, seen)
+        if act.word == "setfl":
+            looked_at |= {number for number, it in beside.world.processes.items() if it.waits}
+        looked += [b"p%d resume" % number for number in sorted(looked_at)]
     return looked + [text.encode() for text in last_looks(beside.world)]
 
 
 def come_back(beside: Settled, seen: int) -> set[int]:
-    """The processes whose calls came back in the lines of a run after so many: where a system wakes one of them too late
-    or never, it waits on there."""
+    """The processes whose calls came back in the lines of a run after so many: where a system wakes one of them too
+    late or never, it waits on there."""
     told = map(line_of, beside.lines[seen:])
     back = {line.number() for line in told if is_told_back(line)}
     return {number for number in back if not beside.world.processes[number].waits}

@@ -68,6 +68,7 @@ ENDED = f"{FORKED}p1 close 1\np1 read 0 1\n"
 # ---- what is no run of the script
 
 ACTS = "join\np0 open Z9 rw,creat\np0 write 0 x6162\np0 pread 0 0 9\np0 unlink Z9\np0 close 0\n"
+PIPED = f"{FORKED}p0 write 1 61*1024\np0 write 1 x61\np1 read 0 1024\np0 close 0\n"
 CLOSED = "join\np0 fork\nclose-run\n"
 # Drivers whose lines are not compared, and what is told of them.
 NO_RUNS = {
@@ -87,16 +88,34 @@ NO_RUNS = {
         ACTS,
         "line 2 spells an act otherwise than docs/FORMATS.md: `p0 open Z%39 rw,creat`, not `p0 open Z9 rw,creat`",
     ),
+    "sees-nothing": (ACTS, "ask_kernel: line 1 gives `?` for `p0 join`; expected the number of a process, an error"),
+    "sees-no-read": (ACTS, "line 4 gives `?` for `p0 pread 0 0 9`; expected data, as x6869 or 61*512, an error"),
+    "sees-no-small-write": (PIPED, "line 6 gives `parked ?` for `p0 write 1 x61`; expected parked 0, since it has no"),
+    "sees-no-totals": (ACTS, "ask_kernel does not print `records R in I out O` in the end"),
+    "sees-no-bytes-in": (ACTS, "does not tell the bytes that were written, and no write of more than 512 bytes waits"),
+    "sees-no-return": (PIPED, "gives `?` for `p0 resume`; expected how many bytes, or an error"),
+    "asks-no-pipe": (PIPED, "line 2 gives `not asked` for `p0 pipe`; expected two descriptors"),
+    "says-waiting": (PIPED, "gives `parked 0` for `p0 close 0`; expected ok, an error"),
+    "says-a-number": (ACTS, "gives `0` for `p0 close 0`; expected ok, an error, as error EBADF"),
+    "says-it-at-length": (ACTS, "gives `x6162 (ab)` for `p0 pread 0 0 9`; expected data"),
+    "says-it-otherwise": (ACTS, "gives `61*1` for `p0 pread 0 0 9`; expected data"),
+    "says-back-twice": (PIPED, "gives `1` for `p0 resume`; expected it at place 8"),
+    "loses-a-record": (PIPED, "gives `ok` for `p0 close 0`; expected it at place 7"),
+    "loses-its-place": (ACTS, "line 5 gives `ok` for `p0 unlink Z9`; expected it at place 4"),
     "prints-no-closing": (CLOSED, "line 3 has `house close-run`, where closing the run gives `p1 exit`"),
 }
 
 
 def is_no_run(program: str, folder: str, way: str, script: str, told: str) -> None:
     """What a driver prints that is not the run of the script is not compared, and it is told why."""
-    same(0, compared(program, folder, "none", script).status)
     done = compared(program, folder, way, script)
     require(done.status == 3 and told in (done.stdout + done.stderr).decode(), done.said())
     require(b"Traceback" not in done.stderr, done.said())
+
+
+def is_run(program: str, folder: str, script: str) -> None:
+    """What the driver prints that is not wrong is compared."""
+    same(0, compared(program, folder, "none", script).status)
 
 
 def cases(program: str, folder: str) -> Iterator[Case]:
@@ -105,5 +124,7 @@ def cases(program: str, folder: str) -> Iterator[Case]:
         yield way, partial(sleep_is_told, program, folder, way, script, page)
     way = "last-writer-wakes-nobody"
     yield f"{way}, in the end", partial(sleep_is_told, program, folder, way, ENDED, SLEEPS[way][1])
+    for script in (ACTS, PIPED, CLOSED):
+        yield f"no wrong way: {script[:40]!r}", partial(is_run, program, folder, script)
     for way, (script, text) in NO_RUNS.items():
         yield way, partial(is_no_run, program, folder, way, script, text)

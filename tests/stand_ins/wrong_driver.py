@@ -50,7 +50,21 @@ PRINTED: dict[str, Callable[[str], str]] = {
     "prints-a-panic": lambda text: "panic: page fault\n",
     "prints-another-word": lambda text: text.replace(" pread ", " pread64 "),
     "prints-another-name": lambda text: text.replace(" Z9 ", " Z%39 "),
-    "prints-no-closing": lambda text: re.sub(r"(?m)^\d+ p1 exit = ok\n", "", text),
+    "sees-nothing": lambda text: re.sub(r"(?m) = .*$", " = ?", text),
+    "sees-no-read": lambda text: text.replace(" = x6162", " = ?"),
+    "sees-no-small-write": lambda text: text.replace("parked 0", "parked ?"),
+    "sees-no-totals": lambda text: re.sub(r"(?m)^records .*$", "records ? in ? out ?", text),
+    "sees-no-bytes-in": lambda text: re.sub(r"(?m)^(records \d+ in) .* out", r"\1 ? out", text),
+    "sees-no-return": lambda text: text.replace("p0 resume = 1", "p0 resume = ?"),
+    "asks-no-pipe": lambda text: text.replace(" pipe = 0 1", " pipe = not asked"),
+    "says-waiting": lambda text: text.replace(" close 0 = ok", " close 0 = parked 0"),
+    "says-a-number": lambda text: text.replace(" close 0 = ok", " close 0 = 0"),
+    "says-it-at-length": lambda text: text.replace("= x6162", "= x6162 (ab)"),
+    "says-back-twice": lambda text: re.sub(r"(?m)^(\d+ p0 resume = .*)$", r"\1\n\1", text),
+    "loses-a-record": lambda text: re.sub(r"(?m)^\d+ p0 resume = .*\n", "", text),
+    "loses-its-place": lambda text: re.sub(r"(?m)^4 ", "0 ", text),
+    "says-it-otherwise": lambda text: text.replace(" = x6162", " = 61*1"),
+    "prints-no-closing": lambda text: text.replace("2 p1 exit = ok\n3", "2").replace("records 4", "records 3"),
 }
 
 
