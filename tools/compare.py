@@ -47,8 +47,8 @@ from support.shrinking import shrunk
 from support.summaries import Counts, add_summary
 from support.texts import several
 
-from compare_lines import Asked, first_unfit, in_other_order
-from compare_reasons import REASONS, Difference, follows_append, reason_of, told_reason
+from compare_lines import Asked, first_unfit, in_other_order, is_at_once, moved
+from compare_reasons import OWN, REASONS, Difference, Reason, follows_append, reason_of, told_reason
 from compare_runs import act_of, check_alike, ends_of_closing, is_told_back, places_of_script
 from compare_walks import CLASSES, class_of, random_lines, with_looks
 
@@ -118,7 +118,7 @@ def compared(asked: Asked, lines: list[bytes]) -> tuple[list[Line], list[Differe
             continue
         check_alike(system, fdref, place)
         difference = Difference(place, system, system[place], fdref[place], beside.world_before(place))
-        difference.reason = reason_of(difference)
+        difference.reason = reason_in(asked, difference)
         # no reason excuses an fdref that the model contradicts
         if system[place].act and place not in beside.ends and difference.fdref != beside.outcome_at(place):
             difference.reason = None
@@ -169,6 +169,28 @@ def checked(asked: Asked, lines: list[bytes]) -> Checked:
         result.struck.append(result.last)
         apart, numbered = [*apart, here[-1]], shorter
     return result
+
+
+# ---- a larger PIPE_BUF
+
+
+def is_of_nothing(it: Difference) -> bool:
+    """A write of which fdref moves a part, and the system nothing as long as there is not room for all."""
+    if it.words("resume"):
+        return it.system in ("still", "?") and it.fdref.startswith("part ")
+    waits = it.system in ("parked 0", "parked ?") and it.fdref.startswith("parked ")
+    is_refused = it.system == "error EAGAIN" and it.fdref.isdigit()
+    return it.words("write") and (waits or is_refused) and 0 < moved(it.fdref) < it.count()
+
+
+# The reason that goes by what was measured of the system.
+AT_ONCE = Reason("PIPE_BUF is more than 512 bytes", OWN, "pages of limits.h and write", is_of_nothing)
+
+
+def reason_in(asked: Asked, difference: Difference) -> Reason | None:
+    """The first reason that fits a difference."""
+    is_measured = AT_ONCE.fits(difference) and is_at_once(asked, difference.lines, difference.place)
+    return AT_ONCE if is_measured else reason_of(difference)
 
 
 # ---- telling
@@ -285,7 +307,7 @@ class Totals:
         """The last lines."""
         differences = several(self.by_reason.total() + self.unexplained, "difference")
         lines = [f"{several(self.scripts, 'script')}, {several(self.calls, 'call')}, {differences}"]
-        met = [it for it in REASONS if self.by_reason[it.name]]
+        met = [it for it in (AT_ONCE, *REASONS) if self.by_reason[it.name]]
         lines += [f"{self.by_reason[it.name]:8} {it.name} ({it.who}; {it.page})" for it in met]
         lines += [f"{self.unexplained:8} without a reason"]
         lines += [f"{self.failed:8} not compared"] if self.failed else []

@@ -8,11 +8,11 @@ from pathlib import Path
 
 from support.commands import capacity_words
 from support.counting import Failure
-from support.plain_model import DEFAULTS, TRANSFER_MAX, Limits
+from support.plain_model import DEFAULTS, PIPE_BUF, TRANSFER_MAX, Limits
 from support.running import CannotRun, run
 from support.runs import ALL_RECORDS, Line, line_of
 
-from compare_runs import act_of, ends_of_closing, is_told_back, run_of
+from compare_runs import act_of, bytes_of_write, ends_of_closing, is_told_back, run_of
 
 SECONDS = 120
 ORDERS_MOST = 150
@@ -32,19 +32,31 @@ def is_moved(outcome: str) -> bool:
     return outcome.isdigit() or outcome.startswith("parked") or outcome == "error EAGAIN"
 
 
-def fits(system: Line, fdref: Line, asked: "Asked") -> bool:
-    """Whether two lines fit. How much a large write moved at once is `?`: the same where a pipe has the same room, by
-    bytes, and nothing where the pipe is full to the last byte."""
+def is_at_once(asked: "Asked", lines: list[Line], place: int) -> bool:
+    """Whether a line is that of a write, or of the resume of one, of which a part may go in by the profile, but by the
+    larger PIPE_BUF of the system all of it or nothing."""
+    who, word, *_ = lines[place].act.split(" ")
+    before = (line for line in reversed(lines[:place]) if line.act.startswith(f"{who} "))
+    parked = (line for line in before if line.outcome.startswith("parked "))
+    line = next(parked, lines[place]) if word == "resume" else lines[place]
+    return " write " in line.act and PIPE_BUF < bytes_of_write(line) <= asked.pipe_buf
+
+
+def fits(asked: "Asked", lines: list[Line], place: int, fdref: Line) -> bool:
+    """Whether a line of a system and one of fdref fit. How much a large write moved at once is `?`: the same where a
+    pipe has the same room, by bytes, and nothing where the pipe is full to the last byte."""
+    system = lines[place]
     if system.act != fdref.act:
         return False
     if system.outcome == "?":
-        return True
+        return not fdref.outcome.startswith("part ") or not is_at_once(asked, lines, place)
     if not system.act:
         totals = zip(system.outcome.split(" "), fdref.outcome.split(" "), strict=True)
         return all(word in ("?", other) for word, other in totals)
     if system.outcome == "parked ?":
         is_full = fdref.outcome == "parked 0"
-        return asked.has_same_room and fdref.outcome.startswith("parked ") and (asked.counts_bytes or is_full)
+        is_same = asked.counts_bytes and not is_at_once(asked, lines, place)
+        return asked.has_same_room and fdref.outcome.startswith("parked ") and (is_same or is_full)
     return (system.place == "-", system.outcome) == (fdref.place == "-", fdref.outcome)
 
 
@@ -63,6 +75,7 @@ class Asked:
         self.is_text = is_text
         self.has_same_room = self.room() == limits.capacity
         self.counts_bytes = self.room(3_000, 3_000) == self.room()
+        self.pipe_buf = self.most_at_once() if self.has_same_room and self.counts_bytes else PIPE_BUF
 
     def run(self, words: list[str], script: bytes, who: str) -> bytes:
         """What one of the two prints on a script."""
@@ -74,13 +87,29 @@ class Asked:
             raise CannotRun(f"{who} ends with status {done.status}: {done.stderr.decode('ascii', 'replace').strip()}")
         return done.stdout
 
+    def written(self, *sizes: int) -> list[str]:
+        """What writes of these sizes give that are made under nonblock to an empty pipe of the system."""
+        lines = [b"join", b"p0 mkfifo f", b"p0 open f r,nonblock", b"p0 open f w,nonblock"]
+        lines += [b"p0 write 1 61*%d" % size for size in sizes]
+        return [line.outcome for line in self.system(lines)[4:-1]]
+
     def room(self, *sizes: int) -> int:
         """How many bytes go into an empty pipe of the system by writes of these sizes and one of 65,536, or 65,536
         where they are more."""
-        lines = [b"join", b"p0 mkfifo f", b"p0 open f r,nonblock", b"p0 open f w,nonblock"]
-        lines += [b"p0 write 1 61*%d" % size for size in (*sizes, TRANSFER_MAX)]
-        outcomes = [line.outcome for line in self.system(lines)[4:-1]]
-        return min(sum(map(moved, outcomes)), TRANSFER_MAX)
+        return min(sum(map(moved, self.written(*sizes, TRANSFER_MAX))), TRANSFER_MAX)
+
+    def most_at_once(self) -> int:
+        """PIPE_BUF of the system, whose pipes have the room of fdref's: the largest write that is refused where there
+        is room for one byte. It is the profile's where the system has less, which it may not."""
+        least, most = PIPE_BUF, TRANSFER_MAX
+        size = PIPE_BUF + 1
+        while least < most:
+            if self.written(self.limits.capacity - 1, size)[-1] == "error EAGAIN":
+                least = size
+            else:
+                most = size - 1
+            size = (least + most + 1) // 2
+        return least
 
     def system(self, script: list[bytes]) -> list[Line]:
         """The run of a script as it happened."""
@@ -114,7 +143,7 @@ def first_unfit(asked: Asked, system: list[Line], fdref: list[Line], known: set[
     """The place of the first lines that do not fit, but for those that are known, or None."""
     for place in range(max(len(system), len(fdref))):
         is_there = place < min(len(system), len(fdref))
-        if place not in known and not (is_there and fits(system[place], fdref[place], asked)):
+        if place not in known and not (is_there and fits(asked, system, place, fdref[place])):
             return place
     return None
 

@@ -34,6 +34,11 @@ def act_of(line: Line) -> str:
     return word if word in ("join", "close-run") else line.act
 
 
+def bytes_of_write(line: Line) -> int:
+    """How many bytes the write of a line has."""
+    return len(plain_model.read_data(line.act.split(" ")[3].encode()) or b"")
+
+
 def is_told_back(line: Line) -> bool:
     """Whether a line tells that a call came back: no act of the script stands for it."""
     return line.act.endswith(" resume") and line.place != "-"
@@ -136,7 +141,7 @@ class Outcomes:
         if int(records) != self.records:
             wrong(len(lines) - 1, f"tells of {several(int(records), 'record')}, and {self.records} are before it")
         if bytes_in == UNSEEN and not self.unseen:
-            wrong(len(lines) - 1, "does not tell the bytes that were written, and no write of more than 512 bytes waits")
+            wrong(len(lines) - 1, "does not tell the bytes that went in, and no write of more than 512 bytes waits")
 
     def expected(self, line: Line) -> str:
         """What a line could say that does not say it, or nothing."""
@@ -166,8 +171,8 @@ class Outcomes:
         if waits.word != "write":
             return "" if line.outcome == "parked 0" else "parked 0"
         if waits.is_unseen:
-            data = plain_model.read_data(line.act.split(" ")[3].encode()) or b""
-            return "" if len(data) > plain_model.PIPE_BUF else "parked 0, since it has no more than 512 bytes"
+            is_large = bytes_of_write(line) > plain_model.PIPE_BUF
+            return "" if is_large else "parked 0, since it has no more than 512 bytes"
         return "" if re.fullmatch(f"parked {NUMBER}", line.outcome) else "parked N, with N bytes moved"
 
     def expected_back(self, line: Line, who: str, waits: Waiting | None) -> str:

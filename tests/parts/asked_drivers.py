@@ -6,9 +6,12 @@ from collections.abc import Iterator, Sequence
 from functools import partial
 from pathlib import Path
 
-from support.counting import Case, require, same
+from stand_ins import wrong_driver
+from support.counting import Case, Failure, require, same
 from support.places import STAND_INS, TOOLS
-from support.running import Ran, run
+from support.running import CannotRun, Ran, run
+
+import compare_runs
 
 SECONDS = 60
 
@@ -65,17 +68,36 @@ def sleep_is_told(program: str, folder: str, way: str, script: str, page: str) -
 ENDED = f"{FORKED}p1 close 1\np1 read 0 1\n"
 
 
+# ---- a larger PIPE_BUF
+
+# What a system with pipes of 4,096 bytes and such a PIPE_BUF does otherwise, and is right in.
+AT_ONCE = {
+    f"{FORKED}p0 write 1 61*4000\np0 write 1 62*600\np1 read 0 65536\np1 read 0 65536\n": "write 1 62*600",
+    f"{FORKED}p0 write 1 61*4096\np0 write 1 62*600\np1 read 0 100\n": "resume",
+    "join\np0 pipe\np0 setfl 1 -,nonblock\np0 write 1 61*4000\np0 write 1 62*600\n": "write 1 62*600",
+}
+
+
+def is_by_pipe_buf(program: str, folder: str, way: str, script: str, act: str) -> None:
+    """A write that goes in at once or not at all is told with its reason."""
+    done = compared(program, folder, way, script, ["--pipe-capacity", "4096"])
+    lines = done.stdout.decode().splitlines()
+    reasons = [line for line in lines if line.startswith("reason: ")]
+    same((0, ["reason: PIPE_BUF is more than 512 bytes (own; pages of limits.h and write)"]), (done.status, reasons))
+    require(any(line.startswith("system: ") and f" p0 {act} = " in line for line in lines), f"{lines}")
+
+
 # ---- what is no run of the script
 
 ACTS = "join\np0 open Z9 rw,creat\np0 write 0 x6162\np0 pread 0 0 9\np0 unlink Z9\np0 close 0\n"
 PIPED = f"{FORKED}p0 write 1 61*1024\np0 write 1 x61\np1 read 0 1024\np0 close 0\n"
 CLOSED = "join\np0 fork\nclose-run\n"
-# Drivers whose lines are not compared, and what is told of them.
+# Ways in which what a driver prints is not the run of a script, and what is told of it.
 NO_RUNS = {
-    "runs-nothing": (ACTS, "ask_kernel did not run `join`, nor 4 acts after it"),
-    "runs-six-lines": (ACTS, "ask_kernel did not run `p0 write 1 61*65536`"),
+    "runs-nothing": (ACTS, "ask_kernel did not run `join`, nor 5 acts after it"),
+    "runs-six-lines": (PIPED, "ask_kernel did not run `p1 read 0 1024`, nor 1 act after it"),
     "runs-no-unlink": (ACTS, "ask_kernel did not run `p0 unlink Z9`: line 5 has `p0 close 0`"),
-    "runs-more": (ACTS, "ask_kernel: line 6 is no act of the script: `p0 close 0`"),
+    "runs-more": (ACTS, "ask_kernel: line 7 is no act of the script: `p0 close 0`"),
     "prints-nothing": (ACTS, "ask_kernel does not print `records R in I out O` in the end; its last line is ''"),
     "prints-no-totals": (ACTS, "ask_kernel does not print `records R in I out O` in the end; its last line is '# rec"),
     "prints-a-check-mark": (ACTS, "ask_kernel: line 1 is no line of a run: '\\xe2\\x9c\\x93 up'"),
@@ -92,7 +114,7 @@ NO_RUNS = {
     "sees-no-read": (ACTS, "line 4 gives `?` for `p0 pread 0 0 9`; expected data, as x6869 or 61*512, an error"),
     "sees-no-small-write": (PIPED, "line 6 gives `parked ?` for `p0 write 1 x61`; expected parked 0, since it has no"),
     "sees-no-totals": (ACTS, "ask_kernel does not print `records R in I out O` in the end"),
-    "sees-no-bytes-in": (ACTS, "does not tell the bytes that were written, and no write of more than 512 bytes waits"),
+    "sees-no-bytes-in": (ACTS, "does not tell the bytes that went in, and no write of more than 512 bytes waits"),
     "sees-no-return": (PIPED, "gives `?` for `p0 resume`; expected how many bytes, or an error"),
     "asks-no-pipe": (PIPED, "line 2 gives `not asked` for `p0 pipe`; expected two descriptors"),
     "says-waiting": (PIPED, "gives `parked 0` for `p0 close 0`; expected ok, an error"),
@@ -101,13 +123,31 @@ NO_RUNS = {
     "says-it-otherwise": (ACTS, "gives `61*1` for `p0 pread 0 0 9`; expected data"),
     "says-back-twice": (PIPED, "gives `1` for `p0 resume`; expected it at place 8"),
     "loses-a-record": (PIPED, "gives `ok` for `p0 close 0`; expected it at place 7"),
-    "loses-its-place": (ACTS, "line 5 gives `ok` for `p0 unlink Z9`; expected it at place 4"),
-    "prints-no-closing": (CLOSED, "line 3 has `house close-run`, where closing the run gives `p1 exit`"),
+    "loses-its-place": (ACTS, "; expected it at place 4"),
 }
+# Some of them, and one that only fdref's run tells, as the tool tells them.
+NOT_COMPARED = [
+    ("runs-no-unlink", ACTS, "did not run `p0 unlink Z9`"),
+    ("prints-a-check-mark", ACTS, "line 1 is no line of a run"),
+    ("sees-nothing", ACTS, "gives `?` for `p0 join`"),
+    ("prints-no-closing", CLOSED, "line 3 has `house close-run`, where closing the run gives `p1 exit`"),
+]
 
 
-def is_no_run(program: str, folder: str, way: str, script: str, told: str) -> None:
-    """What a driver prints that is not the run of the script is not compared, and it is told why."""
+def is_no_run(way: str, script: str, told: str) -> None:
+    """What a driver prints that is not the run of the script is not taken, and it is told why."""
+    lines, text = script.encode().splitlines(), script.encode()
+    compare_runs.run_of(lines, wrong_driver.printed("none", text))
+    try:
+        compare_runs.run_of(lines, wrong_driver.printed(way, text))
+    except CannotRun as fault:
+        require(told in str(fault), str(fault))
+    else:
+        raise Failure("it is taken for the run")
+
+
+def is_not_compared(program: str, folder: str, way: str, script: str, told: str) -> None:
+    """It is not compared, and the tool tells why."""
     done = compared(program, folder, way, script)
     require(done.status == 3 and told in (done.stdout + done.stderr).decode(), done.said())
     require(b"Traceback" not in done.stderr, done.said())
@@ -124,7 +164,11 @@ def cases(program: str, folder: str) -> Iterator[Case]:
         yield way, partial(sleep_is_told, program, folder, way, script, page)
     way = "last-writer-wakes-nobody"
     yield f"{way}, in the end", partial(sleep_is_told, program, folder, way, ENDED, SLEEPS[way][1])
-    for script in (ACTS, PIPED, CLOSED):
-        yield f"no wrong way: {script[:40]!r}", partial(is_run, program, folder, script)
+    for way in ("larger-pipe-buf", "larger-pipe-buf-unseen"):
+        for script, act in AT_ONCE.items():
+            yield f"{way} {script!r}", partial(is_by_pipe_buf, program, folder, way, script, act)
     for way, (script, text) in NO_RUNS.items():
-        yield way, partial(is_no_run, program, folder, way, script, text)
+        yield way, partial(is_no_run, way, script, text)
+    yield "no wrong way", partial(is_run, program, folder, CLOSED)
+    for way, script, text in NOT_COMPARED:
+        yield f"{way}, as it is told", partial(is_not_compared, program, folder, way, script, text)

@@ -15,10 +15,9 @@ from pathlib import Path
 
 sys.path.insert(0, str(Path(__file__).resolve().parents[1]))
 
+from stand_ins import settled_driver
 from support import plain_model
-from support.plain_model import WaitingOpen, WaitingRead, WaitingWrite, World
-
-from settled_driver import lines_of
+from support.plain_model import WaitingOpen, WaitingRead, WaitingWrite
 
 # Systems that leave a call waiting which can go on: whether a call of a kind goes on there.
 SLEEPS: dict[str, tuple[type, Callable[..., bool]]] = {
@@ -68,18 +67,41 @@ PRINTED: dict[str, Callable[[str], str]] = {
 }
 
 
+# Systems that are right, with pipes of 4,096 bytes and a larger PIPE_BUF: from how many bytes on a write that waits is
+# told as one of which it is not seen how much went in.
+LARGER_PIPE_BUF, UNSEEN_FROM = 4_096, {"larger-pipe-buf": 4_097, "larger-pipe-buf-unseen": 513}
+
+
+def has_larger_pipe_buf(unseen_from: int) -> None:
+    """Makes it a system with such a PIPE_BUF."""
+
+    def is_large(process: plain_model.Process) -> bool:
+        return isinstance(process.waits, WaitingWrite) and len(process.waits.data) >= unseen_from
+
+    plain_model.PIPE_BUF = LARGER_PIPE_BUF
+    settled_driver.is_large = is_large
+
+
+def printed(way: str, script: bytes, limits: plain_model.Limits = plain_model.DEFAULTS) -> bytes:
+    """What a driver prints for a script that is wrong in a way, or not."""
+    lines = settled_driver.lines_of(LEFT_OUT.get(way, bytes)(script), limits)
+    return PRINTED.get(way, str)("".join(f"{line}\n" for line in lines)).encode()
+
+
 def main(words: list[str]) -> int:
     """Prints what is asked for: the exit status."""
     if words == ["--list"]:
-        print("\n".join([*SLEEPS, *LEFT_OUT, *PRINTED]))
+        print("\n".join([*SLEEPS, *LEFT_OUT, *PRINTED, *UNSEEN_FROM]))
         return 0
     (way,) = words
     if way in SLEEPS:
         kind, is_ready = SLEEPS[way]
         setattr(kind, "is_ready", is_ready)
-    script = LEFT_OUT.get(way, bytes)(sys.stdin.buffer.read())
-    text = "".join(f"{line}\n" for line in lines_of(script))
-    sys.stdout.buffer.write(PRINTED.get(way, str)(text).encode())
+    limits = plain_model.DEFAULTS
+    if way in UNSEEN_FROM:
+        has_larger_pipe_buf(UNSEEN_FROM[way])
+        limits = plain_model.Limits(capacity=LARGER_PIPE_BUF)
+    sys.stdout.buffer.write(printed(way, sys.stdin.buffer.read(), limits))
     return 0
 
 
