@@ -16,11 +16,14 @@ A history that no order explains is told with its reason, if there is one: the p
 of the system. The last lines count histories by kind and by reason.
 
 With a FILE, which is a race for `fdref outcomes`, the system runs that for N seconds (5), and a table is printed: what
-was seen and is not allowed, with its reason, then what is allowed and was not seen, and then the rest. Each line has
-how often an outcome was seen, its number in `fdref outcomes`, and the answers; the last one counts them. The reason may
-be one of tools/compare.py, where an order explains all but what has such reasons; `perhaps` is told of one where none
-is found, and that is no reason yet. What FILE asks for is left out. Where `fdref outcomes` tells that there are too
-many states, --states N lets it go on to N.
+was seen and is not allowed, with its reason, what is allowed, but not at the times at which the calls were made, then
+what is allowed and was not seen, and then the rest. Each line has how often an outcome was seen, its number in `fdref
+outcomes`, and the answers; the last one counts them. Times are judged for as long as they were raced: in how many
+rounds they were not is told before the last line. Of rounds in which the same calls come before others one is judged.
+
+The reason may be one of tools/compare.py, where an order explains all but what has such reasons; `perhaps` is told of
+one where none is found, and that is no reason yet. What FILE asks for is left out. Where `fdref outcomes` tells that
+there are too many states, --states N lets it go on to N.
 
 Exit status: 0 where all that no order explains has a reason, 1 where something has none, 2 for wrong words, 3 where a
 script could not be run. docs/KERNELS.md has more.
@@ -47,6 +50,7 @@ from support.drivers import compiled
 from support.histories import History, Noted
 from support.plain_model import DEFAULTS, Limits
 from support.running import CannotRun, run
+from support.runs import Line
 from support.summaries import Counts, add_summary
 from support.texts import several
 
@@ -512,14 +516,23 @@ def race_file(args: argparse.Namespace, asked: Asked) -> int:
     if first:
         print("".join(f"{line}\n" for line in race_table.setup_differs(program, race, first, asked.limits)), end="")
     odd = table.odd(lambda history: reason_without_order(asked, script, history))
-    print("\n".join(table.lines(odd, lambda history: perhaps(asked, history))), flush=True)
-    bare = [it for it in odd if it.reason is None]
+    setup = replaying.replayed(program, [act for _, act in race.setup], asked.limits)
+    until = time.monotonic() + max(FILE_SECONDS, args.seconds or 0)
+    untimely = table.untimely(lambda history: judged_by_times(asked, script, with_setup(history, setup)), until)
+    print("\n".join(table.lines(odd, lambda history: perhaps(asked, history), untimely.odd)), flush=True)
+    bare = [it for it in [*odd, *untimely.odd] if it.reason is None]
     for it in bare[:TOLD_MOST]:
         tell(Unexplained(script, it.history, None), args.file, asked.limits)
     for it in bare if args.keep else []:
         keep_files(Unexplained(script, it.history, None), Path(args.file).stem, args.keep)
-    print(table.last_line(odd))
+    print("\n".join(table.last_lines(odd, untimely)))
     return 1 if bare else 0
+
+
+def with_setup(history: History, setup: Sequence[Line]) -> list[Noted]:
+    """A history with what fdref answers to the acts before the race: what the system does is told of these already."""
+    before = [noted._replace(outcome=line.outcome) for noted, line in zip(history, setup, strict=False)]
+    return [*before, *history[len(setup) :]]
 
 
 class Choice(NamedTuple):
@@ -537,9 +550,25 @@ def choice(asked: Asked, found: apart.Apart, ordered: Sequence[Noted]) -> Choice
 
 def reason_without_order(asked: Asked, script: str, history: History) -> race_table.Reasoned | None:
     """The reason of a history whose answers fdref does not allow, so that no order may explain it."""
-    limits = asked.limits
-    if isinstance(explained(history, limits), ordering.Explained):
+    if isinstance(explained(history, asked.limits), ordering.Explained):
         raise replaying.Differs(f"fdref outcomes does not tell what an order explains:\n{told(history)}")
+    return reason_in_race(asked, script, history)
+
+
+def judged_by_times(asked: Asked, script: str, history: History) -> race_table.Judged:
+    """Whether an order explains a history whose answers fdref allows, if only at other times."""
+    explanation = explained(history, asked.limits)
+    if isinstance(explanation, ordering.Explained):
+        asked.verify(history, explanation)
+        return race_table.Judged(True)
+    if isinstance(explanation, ordering.GivenUp):
+        return race_table.Judged(None)
+    return race_table.Judged(False, reason_in_race(asked, script, history))
+
+
+def reason_in_race(asked: Asked, script: str, history: History) -> race_table.Reasoned | None:
+    """The reason of a history that no order explains, if there is one."""
+    limits = asked.limits
     reason = reason_of(Race(script, history, limits))
     if reason:
         return reason

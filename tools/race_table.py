@@ -4,7 +4,10 @@ A call that waits at the end is `waits ?` in both, since how much of a write wen
 outcomes of fdref that differ in nothing else are one line.
 """
 
+import collections
+import itertools
 import re
+import time
 from collections.abc import Callable, Iterable, Sequence
 from typing import NamedTuple, Protocol
 
@@ -17,8 +20,8 @@ from support.running import CannotRun, run
 from support.texts import several
 
 SECONDS = 600
-# How many histories with the same answers are looked at for a reason, at most.
-JUDGED_MOST = 3
+# How many histories with the same answers are looked at for a reason, at most, and how many are kept.
+JUDGED_MOST, FORMS_MOST = 3, 1_000
 # How many characters of an outcome are shown.
 WIDTH = 110
 
@@ -33,18 +36,29 @@ class Reasoned(Protocol):
     def page(self) -> str: ...
 
 
+class Judged(NamedTuple):
+    """Whether an order explains a history with its times, or None where that is not known, and why none does."""
+
+    is_explained: bool | None
+    reason: Reasoned | None = None
+
+
 class Seen:
-    """How often calls were seen to answer the same, and some histories in which they did, of different forms."""
+    """How often calls were seen to answer the same, and some histories in which they did, of different forms, each with
+    how often it was met."""
 
     def __init__(self) -> None:
         self.count = 0
         self.forms: dict[object, History] = {}
+        self.times: collections.Counter[object] = collections.Counter()
 
     def add(self, history: History) -> None:
         """Counts a history."""
         self.count += 1
-        if len(self.forms) < JUDGED_MOST:
-            self.forms.setdefault(histories.form(history), history)
+        form = histories.form(history)
+        if form in self.forms or len(self.forms) < FORMS_MOST:
+            self.forms.setdefault(form, history)
+            self.times[form] += 1
 
 
 class Odd(NamedTuple):
@@ -54,6 +68,13 @@ class Odd(NamedTuple):
     count: int
     reason: Reasoned | None
     history: History
+
+
+class Untimely(NamedTuple):
+    """What was seen and is allowed, but not at the times of the calls, and of how many rounds these were not judged."""
+
+    odd: list[Odd]
+    unjudged: int
 
 
 def without_counts(text: str) -> str:
@@ -75,6 +96,31 @@ def allowed_by(program: Sequence[str], race: Race, words: Sequence[str]) -> dict
     return allowed
 
 
+def check_calls(race: Race, history: History) -> None:
+    """Fails where a history does not have the calls of a race: each process makes its own in their order, but for those
+    after one that waits."""
+    before = [script_line(noted.act) for noted in history[: len(race.setup)]]
+    faults = [apart([script_line(act) for _, act in race.setup], before, False)]
+    lanes = race.lanes()
+    calls = history[len(race.setup) :]
+    for process in sorted({noted.process for noted in calls} | set(lanes)):
+        own = [noted for noted in calls if noted.process == process]
+        waits = bool(own) and own[-1].end is None
+        faults.append(apart(list(map(script_line, lanes.get(process, []))), [script_line(it.act) for it in own], waits))
+    for fault in filter(None, faults):
+        raise CannotRun(f"race_kernel {fault}")
+
+
+def apart(wanted: Sequence[str], made: Sequence[str], may_end: bool) -> str | None:
+    """What was not made as it is wanted, unless calls are missing at the end alone, where they may."""
+    for want, have in itertools.zip_longest(wanted, made):
+        if have is None:
+            return None if may_end else f"did not run `{want}`"
+        if want != have:
+            return f"ran `{have}` in place of `{want}`" if want else f"ran `{have}`, which is not in the race"
+    return None
+
+
 def seen_in(race: Race, history: History) -> str:
     """The outcome that a history is."""
     told: dict[int, list[str]] = {process: [] for process in race.lanes()}
@@ -94,6 +140,7 @@ class Table:
     def add(self, found: Iterable[History]) -> None:
         """Counts histories."""
         for history in found:
+            check_calls(self.race, history)
             self.seen.setdefault(seen_in(self.race, history), Seen()).add(history)
 
     def rounds(self) -> int:
@@ -105,19 +152,41 @@ class Table:
         found = []
         for text, seen in sorted(self.seen.items(), key=lambda entry: -entry[1].count):
             if text not in self.allowed:
-                judged = [(reason_of(history), history) for history in seen.forms.values()]
+                judged = [(reason_of(history), history) for history in [*seen.forms.values()][:JUDGED_MOST]]
                 # one history without a reason is told, where there is one
                 found.append(Odd(text, seen.count, *min(judged, key=lambda it: it[0] is not None)))
         return found
 
-    def lines(self, odd: Sequence[Odd], perhaps: Callable[[History], Reasoned | None]) -> list[str]:
-        """The table, in three parts: a line has how often an outcome was seen, its number in fdref, and its text. What
-        may be the reason of one without a reason is told."""
+    def untimely(self, judge: Callable[[History], Judged], until: float) -> Untimely:
+        """What was seen and is allowed, but not at the times of the calls. Histories of each outcome are judged by
+        turns, those of equal forms once, until a time has come; one of each outcome is judged in any case."""
+        met = [(text, seen) for text, seen in self.seen.items() if text in self.allowed]
+        todo = [(turn, text, form) for text, seen in met for turn, form in enumerate(seen.forms)]
+        bad: dict[str, list[tuple[int, Reasoned | None, History]]] = {}
+        looked = 0
+        for turn, text, form in sorted(todo, key=lambda it: it[0]):
+            if turn and time.monotonic() > until:
+                break
+            seen = self.seen[text]
+            judged = judge(seen.forms[form])
+            looked += seen.times[form] if judged.is_explained is not None else 0
+            if judged.is_explained is False:
+                bad.setdefault(text, []).append((seen.times[form], judged.reason, seen.forms[form]))
+        odd = []
+        for text, found in bad.items():
+            _, reason, history = min(found, key=lambda it: it[1] is not None)
+            odd.append(Odd(text, sum(count for count, *_ in found), reason, history))
+        return Untimely(odd, sum(seen.count for _, seen in met) - looked)
+
+    def lines(
+        self, odd: Sequence[Odd], perhaps: Callable[[History], Reasoned | None], untimely: Sequence[Odd] = ()
+    ) -> list[str]:
+        """The table, in up to four parts: a line has how often an outcome was seen, its number in fdref, and its text.
+        What may be the reason of one without a reason is told."""
         lines = ["seen, and not allowed"] if odd else []
-        for it in odd:
-            reason = it.reason or perhaps(it.history)
-            why = f"{reason.name} ({reason.page})" if reason else "no reason is known"
-            lines += [row(it.count, "-", it.text), f"{'':14}{'' if it.reason or not reason else 'perhaps: '}{why}"]
+        lines += [line for it in odd for line in self.odd_lines(it, perhaps)]
+        lines += ["seen, and not allowed at these times"] if untimely else []
+        lines += [line for it in untimely for line in self.odd_lines(it, perhaps)]
         unseen = [text for text in self.allowed if text not in self.seen]
         lines += ["allowed, and not seen"] if unseen else []
         lines += [row(0, self.allowed[text], text) for text in unseen]
@@ -125,12 +194,30 @@ class Table:
         lines += ["allowed, and seen"] if met else []
         return lines + [row(self.seen[text].count, self.allowed[text], text) for text in met]
 
-    def last_line(self, odd: Sequence[Odd]) -> str:
-        """The counts."""
+    def odd_lines(self, it: Odd, perhaps: Callable[[History], Reasoned | None]) -> list[str]:
+        """The lines of an outcome that is not allowed."""
+        reason = it.reason or perhaps(it.history)
+        why = f"{reason.name} ({reason.page})" if reason else "no reason is known"
+        may_be = "perhaps: " if reason and not it.reason else ""
+        return [row(it.count, self.allowed.get(it.text, "-"), it.text), f"{'':14}{may_be}{why}"]
+
+    def last_lines(self, odd: Sequence[Odd], untimely: Untimely) -> list[str]:
+        """The counts. Before them stands how many outcomes have times at which they are not allowed, and of how many
+        rounds the times were not judged."""
+        lines = []
+        if untimely.odd:
+            outcomes = several(len(untimely.odd), "outcome")
+            lines.append(f"{outcomes} not allowed at some times, {bare(untimely.odd)} of them without a reason")
+        if untimely.unjudged:
+            lines.append(f"the times of {several(untimely.unjudged, 'round')} were not judged")
         met = sum(text in self.seen for text in self.allowed)
-        bare = sum(it.reason is None for it in odd)
         text = f"{several(self.rounds(), 'round')}; outcomes: {len(self.allowed)} allowed, {met} of them seen; "
-        return text + f"{len(odd)} seen and not allowed, {bare} of them without a reason"
+        return [*lines, text + f"{len(odd)} seen and not allowed, {bare(odd)} of them without a reason"]
+
+
+def bare(odd: Iterable[Odd]) -> int:
+    """How many have no reason."""
+    return sum(it.reason is None for it in odd)
 
 
 def row(count: int, number: int | str, text: str) -> str:

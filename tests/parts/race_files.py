@@ -7,9 +7,11 @@ from pathlib import Path
 from typing import NamedTuple
 
 from support.counting import Case, Failure, require, same
+from support.histories import read_histories
 from support.outcomes import read_race
 from support.places import EXAMPLES, STAND_INS, TOOLS
 from support.running import Ran, run
+from support.searching import FOREVER
 
 import race
 import race_table
@@ -140,6 +142,68 @@ def setup_is_told(tools: Tools) -> None:
     require(done.status == 0 and done.stdout.startswith(first), done.said())
 
 
+# Of calls one after another: a read that ends before the flag is set, and a write before there is room.
+EARLY = f"20 21 {READ} error EAGAIN\n22 23 {SET}\n24 25 {NONE}\n26 27 {WRITE}\n"
+UNTIMELY = """seen, and not allowed at these times
+       1    0 error EAGAIN, ok, error EAGAIN, 1
+              no reason is known
+allowed, and not seen
+       0    1 x61, ok, error EAGAIN, 1
+allowed, and seen
+       3    0 error EAGAIN, ok, error EAGAIN, 1
+"""
+FULL = f"{SETUP}8 9 p0 write 1 61*1000 = 1000\n"
+ROOMY = ["20 30 p0 write 1 62*1000 = 1000", "31 40 p1 read 0 1000 = 61*1000"]
+
+
+def times_are_judged(tools: Tools) -> None:
+    """What is allowed, but not at the times of the calls, is told, shown and kept, and is status 1."""
+    words = made_up(tools, "early", [EARLY, *MADE_UP[1:3]])
+    done = tools.race(*words, "--keep", tools.folder)
+    told = done.stdout.decode()
+    require(done.status == 1 and told.startswith(UNTIMELY), told + done.said())
+    require("\n1 outcome not allowed at some times, 1 of them without a reason\n3 rounds; " in told, told)
+    require(f"{words[0]}: no order explains\n" in told, told)
+    same(f"{SETUP}{EARLY}\n", Path(tools.folder, "early.histories").read_text())
+
+
+def room_is_a_reason_of_times(tools: Tools) -> None:
+    """What is not allowed at the times of the calls has a reason where larger pipes explain it."""
+    words = made_up(tools, "roomy", ["".join(f"{call}\n" for call in ROOMY)], FULL)
+    Path(words[0]).write_text(f"{ENDS}p0 write 1 61*1000\nrace\np0 write 1 62*1000\np1 read 0 1000\n")
+    done = tools.race(*words)
+    lines = done.stdout.decode().splitlines()
+    wanted = ["seen, and not allowed at these times", "room of a pipe (own) (page of write)"]
+    same((0, wanted), (done.status, [lines[0], lines[2].strip()]))
+
+
+def unjudged_are_counted() -> None:
+    """One history of each outcome is judged in any case. How many rounds have others is told."""
+    script = read_race(SCRIPT.encode())
+    table = race_table.Table(script, {"error EAGAIN, ok, error EAGAIN, 1": 0})
+    table.add(read_histories("\n".join(SETUP + text for text in [*MADE_UP[1:3], EARLY])))
+    all_judged = table.untimely(lambda history: race_table.Judged(True), FOREVER)
+    some_judged = table.untimely(lambda history: race_table.Judged(True), 0)
+    none_judged = table.untimely(lambda history: race_table.Judged(None), FOREVER)
+    same(((0, 1, 3), []), ((all_judged.unjudged, some_judged.unjudged, none_judged.unjudged), none_judged.odd))
+    same("the times of 1 round were not judged", table.last_lines([], some_judged)[0])
+
+
+# Histories that are not those of the race, and what is told of each.
+OTHER_RACES = [
+    (SETUP, MADE_UP[0].replace(f"24 25 {WRITE}\n", ""), "did not run `p1 write 1 x61`"),
+    (SETUP, MADE_UP[0].replace("x61 = 1", "x62 = 1"), "ran `p1 write 1 x62` in place of `p1 write 1 x61`"),
+    (SETUP, f"{MADE_UP[1]}30 31 p0 close 0 = ok\n", "ran `p0 close 0`, which is not in the race"),
+    (SETUP.replace("6 7 p1 attach = ok\n", ""), "6 7 p0 close 0 = ok\n", "ran `p0 close 0` in place of `p1 attach`"),
+]
+
+
+def other_race_is_told(tools: Tools, setup: str, calls: str, told: str) -> None:
+    """A history that is not one of the race is not counted, and it is told why."""
+    done = tools.race(*made_up(tools, "other", [calls], setup))
+    require(done.status == 3 and done.stderr.decode().endswith(f"race_kernel {told}\n"), done.said())
+
+
 def states_are_passed_on(tools: Tools) -> None:
     """With too few states fdref gives up, and with enough it tells what is allowed."""
     words = made_up(tools, "states", MADE_UP[1:2])
@@ -170,6 +234,11 @@ def tool_cases(tools: Tools) -> Iterator[Case]:
     for choice in CHOICES:
         yield f"a choice: {choice[2][0]}", partial(choice_is_told, tools, *choice)
     yield "before the race", partial(setup_is_told, tools)
+    yield "times", partial(times_are_judged, tools)
+    yield "times and room", partial(room_is_a_reason_of_times, tools)
+    yield "times that are not judged", unjudged_are_counted
+    for setup, calls, told in OTHER_RACES:
+        yield f"another race: {told}", partial(other_race_is_told, tools, setup, calls, told)
     yield "too many states", partial(states_are_passed_on, tools)
     yield "a wrong fdref", partial(wrong_fdref_is_told, tools)
     for text, told in (
@@ -201,6 +270,17 @@ def system_is_allowed(tools: Tools, name: str) -> None:
     require(all(it.reason for it in odd), f"{[it.text for it in odd]}")
 
 
+def system_keeps_time(tools: Tools, name: str) -> None:
+    """What this system is seen to do in an example is allowed at the times of the calls, or has a reason."""
+    script = read_race((RACES / f"{name}.race").read_bytes())
+    asked = race.Asked([tools.program], tools.driver)
+    table = race_table.Table(script, race_table.allowed_by([tools.program], script, []))
+    for found in race.raced(asked, script.text(), name, EXAMPLE_SECONDS):
+        table.add(found)
+    untimely = table.untimely(lambda history: race.judged_by_times(asked, script.text(), history), FOREVER)
+    require(all(it.reason for it in untimely.odd), f"{[(it.text, it.history) for it in untimely.odd]}")
+
+
 def is_found(tools: Tools, way: str, name: str, library: str) -> None:
     """An example finds a system that is wrong in a way."""
     driver = ["env", f"WRONG_SYSTEM={way}", f"LD_PRELOAD={library}", *tools.driver]
@@ -210,7 +290,9 @@ def is_found(tools: Tools, way: str, name: str, library: str) -> None:
 
 def example_cases(tools: Tools) -> Iterator[Case]:
     """Each example on the system at hand."""
-    yield from ((file.stem, partial(system_is_allowed, tools, file.stem)) for file in sorted(RACES.glob("*.race")))
+    for file in sorted(RACES.glob("*.race")):
+        yield file.stem, partial(system_is_allowed, tools, file.stem)
+        yield f"times of {file.stem}", partial(system_keeps_time, tools, file.stem)
 
 
 def wrong_cases(tools: Tools, library: str) -> Iterator[Case]:
