@@ -49,7 +49,7 @@ from support.counting import Failure
 from support.drivers import compiled
 from support.histories import History, Noted
 from support.plain_model import DEFAULTS, Limits
-from support.running import CannotRun, run
+from support.running import CannotRun, Ran, run
 from support.runs import Line
 from support.summaries import Counts, add_summary
 from support.texts import several
@@ -73,6 +73,8 @@ STATES_MOST = 200_000
 TOLD_MOST = 5
 SHRINK_SECONDS = 5
 PAGE = 4_096
+# How many characters are told of what a driver says in the end.
+SAID_MOST = 400
 
 
 # ---- reasons
@@ -246,7 +248,7 @@ class Asked:
         except (Failure, OSError) as fault:
             raise CannotRun(f"race_kernel: {fault}") from None
         if done.status != 0:
-            raise CannotRun(f"race_kernel ends with {done.said()}")
+            raise CannotRun(f"race_kernel ends with {last_said(done)}")
         return histories.read_histories(done.stdout.decode("ascii"))
 
     def verify(self, history: History, explanation: ordering.Explained) -> None:
@@ -255,6 +257,14 @@ class Asked:
         if key not in self.verified:
             replaying.verified(self.program, history, explanation.steps, self.limits)
             self.verified.add(key)
+
+
+def last_said(done: Ran) -> str:
+    """How a driver ended, and the end of what it said of that."""
+    lines = [line.strip() for line in done.stderr.decode("utf-8", "replace").splitlines() if line.strip()]
+    text = "; ".join(lines)
+    how = f"signal {-done.status}" if done.status < 0 else f"status {done.status}"
+    return f"{how}: {text if len(text) <= SAID_MOST else '..' + text[-SAID_MOST:]}"
 
 
 # ---- one script

@@ -204,6 +204,15 @@ def other_race_is_told(tools: Tools, setup: str, calls: str, told: str) -> None:
     require(done.status == 3 and done.stderr.decode().endswith(f"race_kernel {told}\n"), done.said())
 
 
+def last_words_are_told(tools: Tools) -> None:
+    """Of all that a driver says before it ends with a fault the end is told."""
+    words = made_up(tools, "last", MADE_UP)
+    Path(words[-1]).write_text("#!/bin/sh\nseq 1000 >&2\necho 'KeyError: 7' >&2\nexit 1\n")
+    done = tools.race(*words)
+    require(done.status == 3 and b"ends with status 1: .." in done.stderr, done.said())
+    require(done.stderr.endswith(b"; 1000; KeyError: 7\n"), done.said())
+
+
 def states_are_passed_on(tools: Tools) -> None:
     """With too few states fdref gives up, and with enough it tells what is allowed."""
     words = made_up(tools, "states", MADE_UP[1:2])
@@ -239,6 +248,7 @@ def tool_cases(tools: Tools) -> Iterator[Case]:
     yield "times that are not judged", unjudged_are_counted
     for setup, calls, told in OTHER_RACES:
         yield f"another race: {told}", partial(other_race_is_told, tools, setup, calls, told)
+    yield "the last words of a driver", partial(last_words_are_told, tools)
     yield "too many states", partial(states_are_passed_on, tools)
     yield "a wrong fdref", partial(wrong_fdref_is_told, tools)
     for text, told in (
