@@ -84,7 +84,7 @@ class Asked:
         except (Failure, OSError) as fault:
             raise CannotRun(f"{who}: {fault}") from None
         if done.status != 0:
-            raise CannotRun(f"{who} ends with status {done.status}: {done.stderr.decode('ascii', 'replace').strip()}")
+            raise CannotRun(f"{who} ends with {done.how()}: {done.stderr.decode('ascii', 'replace').strip()}")
         return done.stdout
 
     def written(self, *sizes: int) -> list[str]:

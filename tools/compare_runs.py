@@ -80,6 +80,8 @@ def lines_of(output: bytes) -> list[Line]:
     """The lines that a driver has printed, that of the totals at the end."""
     *records, last = output.splitlines() or [b""]
     for place, text in enumerate(records):
+        if TOTALS.fullmatch(text):
+            wrong(place, f"has the totals, and {several(len(records) - place, 'line')} after it")
         if not LINE.fullmatch(text) or not text.isascii():
             wrong(place, f"is no line of a run: {shown(text, SHOWN)}")
     if not TOTALS.fullmatch(last):

@@ -263,8 +263,7 @@ def last_said(done: Ran) -> str:
     """How a driver ended, and the end of what it said of that."""
     lines = [line.strip() for line in done.stderr.decode("utf-8", "replace").splitlines() if line.strip()]
     text = "; ".join(lines)
-    how = f"signal {-done.status}" if done.status < 0 else f"status {done.status}"
-    return f"{how}: {text if len(text) <= SAID_MOST else '..' + text[-SAID_MOST:]}"
+    return f"{done.how()}: {text if len(text) <= SAID_MOST else '..' + text[-SAID_MOST:]}"
 
 
 # ---- one script

@@ -100,6 +100,7 @@ NO_RUNS = {
     "runs-more": (ACTS, "ask_kernel: line 7 is no act of the script: `p0 close 0`"),
     "prints-nothing": (ACTS, "ask_kernel does not print `records R in I out O` in the end; its last line is ''"),
     "prints-no-totals": (ACTS, "ask_kernel does not print `records R in I out O` in the end; its last line is '# rec"),
+    "prints-a-line-more": (ACTS, "line 7 has the totals, and 1 line after it"),
     "prints-a-check-mark": (ACTS, "ask_kernel: line 1 is no line of a run: '\\xe2\\x9c\\x93 up'"),
     "prints-a-panic": (ACTS, "its last line is 'panic: page fault'"),
     "prints-another-word": (

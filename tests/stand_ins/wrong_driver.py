@@ -45,6 +45,7 @@ LEFT_OUT: dict[str, Callable[[bytes], bytes]] = {
 PRINTED: dict[str, Callable[[str], str]] = {
     "prints-nothing": lambda text: "",
     "prints-no-totals": lambda text: text.replace("\nrecords", "\n# records"),
+    "prints-a-line-more": lambda text: f"{text}\n",
     "prints-a-check-mark": lambda text: f"\u2713 up\n{text}",
     "prints-a-panic": lambda text: "panic: page fault\n",
     "prints-another-word": lambda text: text.replace(" pread ", " pread64 "),

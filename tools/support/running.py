@@ -24,12 +24,15 @@ class Ran(NamedTuple):
     stdout: bytes
     stderr: bytes
 
+    def how(self) -> str:
+        """How it ended."""
+        return f"signal {-self.status}" if self.status < 0 else f"status {self.status}"
+
     def said(self) -> str:
         """All that it wrote and how it ended, in one line."""
         text = (self.stdout + self.stderr).decode("utf-8", "replace")
         lines = [line.strip() for line in text.split("\n") if line.strip()]
-        how = f"signal {-self.status}" if self.status < 0 else f"status {self.status}"
-        return f"{how}: {'; '.join(lines)[:400]}"
+        return f"{self.how()}: {'; '.join(lines)[:400]}"
 
 
 class CannotRun(Failure):
