@@ -151,7 +151,8 @@ class Builder:
             found.append([came, *self.of_process(number, begun, first, asides, number not in forked)])
             for name in dict.fromkeys(map(thread_of, threads)):
                 found.append(self.calls_of(begun, [line for line in threads if thread_of(line) == name]))
-        return found
+        # a signal may have ended each call of a thread
+        return [lane for lane in found if lane]
 
     def begin_of(self, system: Log, number: int) -> int:
         """The time from which on a process can have made calls: its parent's fork began then."""

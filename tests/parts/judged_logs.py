@@ -616,6 +616,14 @@ ORDERS = [
         3,
     ),
     Orders(
+        "a thread of which a signal ended the only call",
+        "p0 pipe = 0 1; -1 p0 read 0 1 = error EINTR",
+        "0 p0 join = 0; 1 p0 pipe = 0 1; 2 p0 read 0 1 = parked 0",
+        OTHERS,
+        f"{LESS}1 answer differs with a reason; {OTHERS}",
+        0,
+    ),
+    Orders(
         "one process",
         "p0 pipe = 0 1; p0 setfl 1 r,nonblock = ok; p0 write 1 61*2000 = 2000; p0 read 0 2000 = 61*2000",
         f"{FULL}4 p0 read 0 2000 = 61*1024",
