@@ -85,6 +85,7 @@ import sys
 import tempfile
 import termios
 import time
+import traceback
 from collections.abc import Callable, Sequence
 from functools import partial
 from pathlib import Path
@@ -800,5 +801,15 @@ def main(words: Sequence[str]) -> int:
     return verdict.status()
 
 
+def main_or_fault(words: Sequence[str]) -> int:
+    """The same. A fault of this tool is no difference, whose status Python would give it."""
+    try:
+        return main(words)
+    except Exception:
+        traceback.print_exc()
+        print("judge.py: this is a fault of judge.py, and nothing is judged", file=sys.stderr)
+        return 3
+
+
 if __name__ == "__main__":
-    sys.exit(main(sys.argv[1:]))
+    sys.exit(main_or_fault(sys.argv[1:]))

@@ -311,7 +311,7 @@ class Compared:
     run on the system may have been killed, and the one with fdref may have ended by itself."""
 
     def __init__(self, system: bytes, fdref: bytes, trace: bytes, is_killed: bool, has_ended: bool) -> None:
-        self.lines, self.system_lines = read_lines(fdref), read_lines(system)
+        self.lines, self.system_lines = read_lines(fdref, "with fdref"), read_lines(system, "on the system")
         on_system, with_fdref = log_of(self.system_lines), log_of(self.lines)
         self.processes = len(on_system.calls)
         # a program that is started has other descriptors, and comes in no order of its own: it is not compared

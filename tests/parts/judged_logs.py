@@ -1,5 +1,7 @@
 """Logs that are compared as tools/judge.py does: where two runs part, and for which reason."""
 
+import contextlib
+import io
 from collections.abc import Iterator, Sequence
 from functools import partial
 from typing import NamedTuple
@@ -836,6 +838,34 @@ def is_unlike(log: str) -> None:
     raise Failure("they are compared")
 
 
+def is_torn() -> None:
+    """A log whose lines a system has mixed up is compared with nothing."""
+    for log in ("- p0 pipe = 3 4\n p0 = 3 4\n", "- p0 pipe\n", "p0 pipe = 3 4\n"):
+        both = judge.Both(WELL, WELL, log.encode(), b"", trace_of([]))
+        try:
+            judge.Verdict(both, "legal 0 rest 0")
+        except judge.CannotJudge as fault:
+            require("of the log on the system is no call, but" in str(fault), str(fault))
+            continue
+        raise Failure(f"{log!r} is compared")
+
+
+def is_own_fault() -> None:
+    """A fault of judge.py itself is no difference."""
+    before = judge.main
+
+    def breaks(_: Sequence[str]) -> int:
+        raise IndexError
+
+    judge.main = breaks
+    try:
+        with contextlib.redirect_stderr(io.StringIO()) as told:
+            same(3, judge.main_or_fault([]))
+    finally:
+        judge.main = before
+    require("this is a fault of judge.py" in told.getvalue(), told.getvalue())
+
+
 def is_circular() -> None:
     """A log in which two processes are children of each other is compared with nothing."""
     both = judge.Both(WELL, WELL, as_bytes(["- p0 fork = 1", "- p1 fork = 0"]), b"", trace_of([]))
@@ -854,5 +884,7 @@ def cases() -> Iterator[Case]:
     for log in ("3 p0 pipe = 2 3", "1 p0 pipe = 1 2", "1 p0 dup 0 = 0 1", "2 p0 read 0 1 = x"):
         yield f"a log with {log}", partial(is_unlike, log)
     yield "a circle of forks", is_circular
+    yield "a log that is torn", is_torn
+    yield "a fault of judge.py", is_own_fault
     for causes in CAUSES:
         yield f"blamed: {causes.name}", partial(is_blamed, causes)

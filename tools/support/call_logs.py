@@ -3,20 +3,26 @@
 A line tells a call and the answer that ended it. Who came and went is not in a log, but for the forks.
 """
 
+import re
 from typing import NamedTuple
 
-from support.counting import Failure
+from support.counting import Failure, require
 from support.runs import Line, line_of
 
 # A process by its way from the first one of its program: which child of which child it is. The program that is run has
 # the ways from 0 on, and those that were started otherwise than by a fork have the ways from 1, 2 .. on.
 Way = tuple[int, ...]
 FIRST = 0
+# The place, the process, the call and its answer.
+CALL = re.compile(r"\S+ p\d+ [a-z]\w*(?: .*)? = .+")
 
 
-def read_lines(text: bytes) -> list[Line]:
-    """The whole lines of a log or of a trace that is shown."""
-    return [line_of(line) for line in text.decode("ascii", "replace").split("\n")[:-1]]
+def read_lines(text: bytes, log: str) -> list[Line]:
+    """The whole lines of a log. Fails at one that tells no call, as where a wrong system mixes up what is appended."""
+    lines = text.decode("ascii", "replace").split("\n")[:-1]
+    for number, line in enumerate(lines, 1):
+        require(CALL.fullmatch(line), f"line {number} of the log {log} is no call, but {line[:60]!r}")
+    return [line_of(line) for line in lines]
 
 
 def word_of(line: Line) -> str:
