@@ -58,15 +58,16 @@ The last line says what the exit status means:
 0  both ended by themselves, with the same status, standard output and standard error, each answer that
    differs has a reason, may follow from one that has, or comes by another order, and the audit finds the
    trace legal, whatever went past fdref
-1  an answer differs, and none of these may be why: a reason, an order that was not decided on, a call past
-   fdref, a thread that waits and holds its process, a child that a signal ended, a bad address, modes, owners
-   and times, and the number of a process, an address or the time, where calls differ only in what they ask.
-   Or no order gives the answers; or the audit finds a fault
+1  the answer to the same call differs, and none of these may be why: a reason, an order that was not decided
+   on, what is told to go past fdref before it (tools/causes.py has what is known to be harmless), a thread
+   that waits and holds its process, a child that a signal ended, a descriptor that no call of fdref made, and
+   a right. Or no order gives the answers; or the audit finds a fault
 2  wrong words
-3  not judged: one of these may be why an answer differs, or the two end otherwise or write something else
-   though no answer differs without a reason; the last line names it (`perhaps by ..`). Or the program could
-   not be run or compared, ended with neither, or crashed with both, as by a bad address, or a child did so
-   with fdref for which it waited; or a call was made while another one of its process waits
+3  not judged: one of these may be why; or a process makes another call, so that its program went another way,
+   as by the time, a timer, the number of a process, an address or a mode; or the two end otherwise or write
+   something else though no answer differs without a reason. The last line names it (`perhaps by ..`). Or the
+   program could not be run or compared, ended with neither, or crashed with both, as by a bad address, or a
+   child did so with fdref for which it waited; or a call was made while another one of its process waits
 """
 
 import argparse
@@ -104,6 +105,7 @@ from support.serving import is_listening, outcome_of, serve_words, started
 from support.texts import difference, several
 from support.trees import Ended, never, run_tree
 
+import causes
 import compare
 import past
 import some_order
@@ -118,6 +120,8 @@ START_SECONDS = 600
 AUDIT_SECONDS = 120
 END_SECONDS = 20
 SESSIONS_MOST = 64
+# The folder in which a program runs.
+RUN = "run"
 # What is said where there are more processes than the server takes.
 MOST_PROCESSES = f" (--sessions, {SESSIONS_MOST} at most)"
 PAUSE = 0.005
@@ -153,6 +157,10 @@ CRASHES = {
 # What may be why the two runs end otherwise.
 BY_ORDER = "the order of the calls"
 BAD_ADDRESS = "a bad address, which is no EFAULT with the shim"
+UNTOLD = f"{causes.NUMBERS}, or an answer that has no line, as that of fsync"
+OTHER_WAY = "the calls differ, not the answers"
+# The statuses of what a timer ends.
+TIMED = (-signal.SIGALRM, -signal.SIGVTALRM, -signal.SIGPROF)
 
 
 class CannotJudge(Exception):
@@ -325,7 +333,7 @@ class Job:
         Path(log).touch()
         env = environment(self.shim, log, **more)
         # the same for both runs, since a program may tell its name
-        folder = os.path.join(self.folder, "run")
+        folder = os.path.join(self.folder, RUN)
         os.mkdir(folder)
         try:
             with open(self.stdin, "rb") as stdin:
@@ -372,14 +380,20 @@ class Job:
 
     def verdict(self) -> "Verdict":
         """What comes of it."""
-        return Verdict(self.both(), self.audited(), self.sessions, self.program)
+        both = self.both()
+        return Verdict(both, self.audited(), self.sessions, self.program, os.path.join(self.folder, RUN))
 
 
 class Verdict:
     """What came of a program: how it ended twice, what differs, and what the audit says."""
 
     def __init__(
-        self, both: Both, audit: str, sessions: int = SESSIONS_MOST, program: list[str] | None = None
+        self,
+        both: Both,
+        audit: str,
+        sessions: int = SESSIONS_MOST,
+        program: list[str] | None = None,
+        folder: str = "",
     ) -> None:
         self.both = both
         self.audit = audit
@@ -389,7 +403,8 @@ class Verdict:
         except Failure as fault:
             raise CannotJudge(str(fault)) from None
         self.findings, self.unexplained = self.compared.findings, self.compared.unexplained
-        self.past = past.with_names(past.past_of(both.past), self.compared.records, self.compared.limits)
+        self.past = past.past_of(both.past)
+        self.made = past.made(past.past_of(both.system_past))
         self.crashes = [CRASHES[number] for number in past.signals(self.past) if number in CRASHES]
         if not self.compared.fdref.total() and not self.compared.system.total():
             none = (
@@ -402,18 +417,32 @@ class Verdict:
             counted = f"has {self.compared.processes} processes, and the server takes {sessions}"
             raise CannotJudge(f"{counted}{MOST_PROCESSES}")
         self.order = self.ordered(program) if program else None
-        self.causes = past.without_early(self.past, self.compared.records)
+        self.causes = self.causes_in(folder)
         self.bare = self.compared.without_cause(self.has_cause) if self.unexplained else []
 
     def ordered(self, program: list[str]) -> some_order.Ordered | None:
         """Whether some order of the calls of several processes explains the answers of the system."""
         is_killed = self.both.system.status is None or past.signals(self.past)
         doubt = "a process that was killed" if is_killed else past.doubt(self.past)
+        doubt = doubt or "".join(it.why() for it in self.made[:1])
         if not doubt and past.cuts(past.past_of(self.both.system_past)):
             doubt = "a call of a thread that the end of its process cut off"
-        if not doubt and any(line.outcome in past.OF_RIGHTS for line in self.compared.system_lines):
-            doubt = past.MODES
+        if not doubt and any(line.outcome in causes.OF_RIGHTS for line in self.compared.system_lines):
+            doubt = causes.MODES
         return some_order.ordered_of(self.compared, program, doubt)
+
+    def causes_in(self, folder: str) -> causes.Causes:
+        """What may be why the two part in a folder, beside the calls."""
+        compared = self.compared
+        every = past.without_early(self.past, compared.records)
+        is_killed = self.both.system.status is None
+        return causes.Causes(
+            every, compared.partings, compared.records, compared.limits, folder, self.made, compared.system, is_killed
+        )
+
+    def is_timed(self) -> bool:
+        """Whether a timer ended one of the two runs."""
+        return any(ended.status in TIMED for ended in (self.both.system, self.both.fdref))
 
     def differs(self) -> bool:
         """Whether an answer differs that neither a reason nor an order of the calls explains."""
@@ -449,8 +478,8 @@ class Verdict:
 
     def cause_of(self, finding: Finding) -> str:
         """What a finding without a reason may be by that is no answer of fdref, or nothing."""
-        cause = past.cause_of(finding, self.causes)
-        other = past.other_cause(finding.parting, self.past, self.compared.records)
+        cause = self.causes.of(finding)
+        other = self.causes.other(finding.parting, self.is_timed())
         is_crash = not finding.parting.fdref and self.both.fdref.status in (-signal.SIGSEGV, -signal.SIGBUS)
         return cause.why() if cause else BAD_ADDRESS if is_crash else other
 
@@ -462,17 +491,19 @@ class Verdict:
         """What may be why the two end otherwise, or write something else, though no answer does without a reason."""
         one, other = self.both.system, self.both.fdref
         descriptor = "1" if one.stdout != other.stdout else "2" if one.stderr != other.stderr else ""
-        held = [it for it in self.causes if it.kind == past.THREAD and other.status is None]
-        cause = next(iter(held), None) or past.cause_of_output(descriptor, self.causes)
+        held = [it for it in self.causes.every if it.kind == past.THREAD and other.status is None]
+        cause = next(iter(held), None) or self.causes.of_output(descriptor)
         if cause:
             return cause.why()
         if self.findings:
             reason = self.reason_of(self.first()) if self.counted() else None
             return f"the reason above: {reason.name}" if reason else BY_ORDER
-        late = [it.why() for it in self.causes if it.kind == past.SIGNAL]
+        late = [it.why() for it in self.causes.every if it.kind == past.SIGNAL]
+        if late or self.is_timed():
+            return late[0] if late else causes.TIMERS
         is_of_modes = past.has_looked(self.past, self.compared.records)
-        numbers = f"which process came first, {past.NUMBERS}" if self.compared.processes > 1 else past.NUMBERS
-        return late[0] if late else past.MODES if is_of_modes else numbers
+        numbers = f"which process came first, {UNTOLD}" if self.compared.processes > 1 else UNTOLD
+        return causes.MODES if is_of_modes else numbers
 
     def counted(self) -> list[Finding]:
         """The findings that no order explains."""
@@ -529,7 +560,7 @@ def told_ends(verdict: Verdict, seconds: float) -> list[str]:
     ):
         if one != other:
             lines.append(f"standard {what} differs in {difference(one, other, ('system', 'fdref'))}")
-            cause = past.cause_of_output(descriptor, every)
+            cause = verdict.causes.of_output(descriptor)
             lines += [compare.clipped(past.told_cause(cause, verdict.compared.lines))] if cause else []
             is_known = cause and past.BETWEEN.fullmatch(cause.call)
             lines += [] if is_known else past.told_looks(every, verdict.compared.records)
@@ -568,19 +599,18 @@ def told_finding(verdict: Verdict, before: int) -> list[str]:
     earlier = sorted((int(it.place), it) for it in lines if it.place.isdigit() and int(it.place) < parting.place)
     told = [f"  {line.place} {line.act} = {line.outcome}" for _, line in earlier[max(len(earlier) - before, 0) :]]
     told += [told_line("system:", parting.system), told_line("fdref: ", parting.fdref)]
-    cause = past.cause_of(finding, verdict.causes)
-    causes = [compare.clipped(past.told_cause(cause, lines))] if cause else []
+    cause = verdict.causes.of(finding)
+    follows = [compare.clipped(past.told_cause(cause, lines))] if cause else []
     told = [compare.clipped(line) for line in told]
     if verdict.is_by_order(finding) and verdict.order:
         # why a program makes other calls, or does not end, no order tells
         is_why = not parting.is_same_call() or (cause and cause.kind == past.THREAD)
-        return [*told, f"reason: {verdict.order.told()}", *(causes if is_why else [])]
-    told += [told_reason(verdict.reason_of(finding)), *causes]
+        return [*told, f"reason: {verdict.order.told()}", *(follows if is_why else [])]
+    told += [told_reason(verdict.reason_of(finding)), *follows]
     told += [verdict.order.told()] if verdict.order else []
-    if parting.is_asked_otherwise():
-        told.append(f"the calls differ, not the answers: by {past.NUMBERS}, perhaps")
-    elif not finding.reason and not cause and verdict.cause_of(finding):
-        told.append(f"perhaps by {verdict.cause_of(finding)}")
+    why = verdict.cause_of(finding)
+    if not finding.reason and not cause and why:
+        told.append(f"perhaps by {why}" if parting.is_same_call() else f"{OTHER_WAY}: perhaps by {why}")
     return told
 
 

@@ -1,4 +1,4 @@
-"""What went past fdref, as the shim notes it, and what a difference may follow from.
+"""What went past fdref, as the shim notes it, and how it is told. What a difference may follow from says causes.py.
 
 A line is `! 6 p0 stream fopen`, and after a tab the name that the call has, if any, or the descriptor of fdref of a
 `call`. `!` stands where --strict would tell it, else `-`. The place is that of the last record of its process before.
@@ -7,11 +7,6 @@ A line is `! 6 p0 stream fopen`, and after a tab the name that the call has, if 
 import re
 from typing import NamedTuple
 
-from partings import Finding, Parting, names_behind
-from support.auditing import Judge, act_of
-from support.call_logs import word_of
-from support.footprints import CHANGE_DESCRIPTORS
-from support.plain_model import Limits
 from support.runs import Line
 
 # The kinds that are counted, and what is said of one.
@@ -24,7 +19,10 @@ VFORK = "vfork"
 CUT = "cut"
 # A signal in a call that waits, which it would have ended in the system.
 INTERRUPT = "interrupt"
-COUNTED = {PATH: "path", STREAM: "stream", PROGRAM: "program", CALL: "other call"}
+# A timer that the program starts; a limit that it sets; and a descriptor that is open in the native run, though no call
+# that fdref knows made it, whose number stands in the place of the call.
+TIMER, LIMIT, MADE = "timer", "limit", "made"
+COUNTED = {PATH: "path", STREAM: "stream", PROGRAM: "program", CALL: "other call", LIMIT: "limit"}
 
 # Calls that change nothing, and tell a program nothing else than natively, or nothing that it goes by.
 LOOKS = re.compile(
@@ -43,11 +41,6 @@ BETWEEN = re.compile(r"link(?:at)?|rename(?:at2?)?")
 # What a child that is still there with fdref may answer otherwise: it holds the ends of pipes, or reads them.
 OF_PIPES = ("open", "read", "write", "fstat")
 
-# What a difference may be by that the calls do not tell.
-MODES = "modes, owners and times, which are fdref's own"
-NUMBERS = "the number of a process, an address or the time"
-OF_RIGHTS = ("error EACCES", "error EPERM")
-
 
 class Past(NamedTuple):
     """What went past fdref: whether --strict tells it, after which record of which process, its kind, and the call."""
@@ -58,8 +51,9 @@ class Past(NamedTuple):
     kind: str
     call: str
     name: str
-    # those of its path, or of the file behind its descriptor then
+    # those of its path, or of the file behind its descriptor then, and what is behind these
     names: frozenset[str] = frozenset()
+    things: frozenset[object] = frozenset()
 
     def said(self, between: str = " ") -> str:
         """The call with its name or descriptor, or what it is where it is none."""
@@ -67,6 +61,10 @@ class Past(NamedTuple):
             STDIO: f"stdio on descriptor {self.call}",
             THREAD: f"a thread that waits in {self.call} and holds its process",
             SIGNAL: f"signal {self.call}, by which a child ended that fdref may have kept for longer",
+            MADE: f"descriptor {self.call}, which is open, and no call that fdref knows made it",
+            LIMIT: f"the limit {self.call}",
+            VFORK: "a vfork, whose child shares no memory here",
+            INTERRUPT: f"a signal in {self.call}, which ends no call of fdref",
         }
         if self.kind == CALL and self.name.isdigit():
             return f"{self.call} on descriptor {self.name}"
@@ -74,7 +72,7 @@ class Past(NamedTuple):
 
     def is_past(self) -> bool:
         """Whether it is a call that went past fdref, and not what holds one of fdref."""
-        return self.kind not in (THREAD, SIGNAL)
+        return self.kind not in (THREAD, SIGNAL, MADE, LIMIT, VFORK, INTERRUPT)
 
     def why(self) -> str:
         """The same as what a difference may be by."""
@@ -91,45 +89,13 @@ class Past(NamedTuple):
         is_other = bool(LISTS.fullmatch(self.call) or BETWEEN.fullmatch(self.call))
         return self.kind in (STDIO, CALL, THREAD, PROGRAM) or is_plain or is_other
 
-    def may_cause(self, finding: Finding) -> bool:
-        """Whether a call may have another answer, or be another call, because of it."""
-        parting = finding.parting
-        if self.kind in (THREAD, PROGRAM):
-            return True
-        if self.kind == SIGNAL:
-            return not parting.fdref or not parting.is_same_call() or word_of(parting.fdref) in OF_PIPES
-        if self.kind in (VFORK, INTERRUPT):
-            return False
-        if LOOKS.fullmatch(self.call):
-            return False
-        if self.names & finding.names or is_at(parting, self.descriptor()):
-            return True
-        if finding.names and MOVES.fullmatch(self.call):
-            return True
-        if gives_number(parting):
-            return self.kind == STREAM or bool(TAKES.fullmatch(self.call))
-        return not parting.is_same_call() and self.tells_otherwise()
-
-    def weight(self, names: frozenset[str], descriptor: str) -> tuple[bool, ...]:
-        """The greater the likelier it is that something follows from it that has to do with these names, and with a
-        descriptor."""
+    def weight(self, names: frozenset[str], descriptor: str, things: frozenset[object]) -> tuple[bool, ...]:
+        """The greater the likelier it is that something follows from it that has to do with these names, with a
+        descriptor, and with these things."""
         is_same = bool(self.names & names), bool(descriptor) and self.descriptor() == descriptor
-        return *is_same, self.kind == STDIO and not names, self.is_strict, self.kind != PATH, self.name[:1] != "/"
-
-
-def is_at(parting: Parting, descriptor: str) -> bool:
-    """Whether a call of a parting is one with this descriptor."""
-    acts = [line.act.split(" ") for line in (parting.system, parting.fdref) if line]
-    return bool(descriptor) and any(act[2:3] == [descriptor] for act in acts)
-
-
-def gives_number(parting: Parting) -> bool:
-    """Whether a call gave one descriptor on the system and another one with fdref."""
-    if not parting.is_same_call() or not parting.system or not parting.fdref:
-        return False
-    _, word, *_ = parting.fdref.act.split(" ")
-    both = parting.system.outcome + parting.fdref.outcome
-    return word in CHANGE_DESCRIPTORS and both.replace(" ", "").isdigit()
+        is_look = bool(LOOKS.fullmatch(self.call))
+        is_near = *is_same, bool(self.things & things), self.kind == MADE, self.kind == STDIO and not names
+        return *is_near, not is_look, self.is_strict, self.kind != PATH, self.name[:1] != "/"
 
 
 def past_of(text: bytes) -> list[Past]:
@@ -152,45 +118,18 @@ def told_place(one: Past, lines: list[Line]) -> str:
 def told_cause(one: Past, lines: list[Line]) -> str:
     """That a difference may follow from it."""
     past, said = "past fdref, " if one.is_past() else "", one.said(" of ")
+    if one.kind == MADE:
+        # the native run has no places
+        return f"may follow from {said}"
     why = ": EXDEV where just one of its names is fdref's" if BETWEEN.fullmatch(one.call) else ""
     return f"may follow from {said} ({past}{told_place(one, lines)}){why}"
 
 
-def with_names(every: list[Past], records: list[Line], limits: Limits) -> list[Past]:
-    """The same, with the names of what each has to do with, by the records of a run."""
-    judge, done = Judge(limits), 0
-    found = list(every)
-    for at, one in sorted(enumerate(every), key=lambda it: it[1].place):
-        for line in records[done : one.place + 1]:
-            judge.outcome_of(act_of(line.act))
-        done = max(done, one.place + 1)
-        by_name = {one.name.rpartition("/")[2]} - {""}
-        names = names_behind(judge.world, one.number, one.descriptor()) if one.descriptor() else by_name
-        found[at] = one._replace(names=frozenset(names))
-    return found
-
-
-def cause_of(finding: Finding, every: list[Past]) -> Past | None:
-    """What a finding may follow from: what has most to do with its names, and of these the last. Where fdref has no
-    call that is any that there was."""
-    parting = finding.parting
-    before = [it for it in every if it.place < parting.place or it.kind == THREAD or not parting.fdref]
-    acts = [line.act.split(" ") for line in (parting.system, parting.fdref) if line]
-    descriptor = acts[0][2] if acts[0][2:] and acts[0][2].isdigit() else ""
-    return last_of([it for it in before if it.may_cause(finding)], finding.names, descriptor)
-
-
-def cause_of_output(descriptor: str, every: list[Past]) -> Past | None:
-    """What it may follow from that something else was written to a descriptor: of what has most to do with that the
-    first, since the first line that differs is told. Stdio on a file that is none of the outputs changes neither."""
-    likely = [it for it in every if it.tells_otherwise() and not LOOKS.fullmatch(it.call)]
-    likely = [it for it in likely if it.kind != STDIO or it.call in ("1", "2")]
-    return last_of(likely[::-1], frozenset(), descriptor)
-
-
-def last_of(every: list[Past], names: frozenset[str], descriptor: str) -> Past | None:
-    """The one that has most to do with these names and this descriptor, and of these the last."""
-    return max(enumerate(every), key=lambda it: (it[1].weight(names, descriptor), it[0]))[1] if every else None
+def last_of(
+    every: list[Past], names: frozenset[str], descriptor: str, things: frozenset[object] = frozenset()
+) -> Past | None:
+    """The one that has most to do with these names, this descriptor and these things, and of these the last."""
+    return max(enumerate(every), key=lambda it: (it[1].weight(names, descriptor, things), it[0]))[1] if every else None
 
 
 def told_past(every: list[Past]) -> list[str]:
@@ -238,23 +177,16 @@ def told_looks(every: list[Past], records: list[Line]) -> list[str]:
     return [told] if has_looked(every, records) else []
 
 
-def other_cause(parting: Parting, every: list[Past], records: list[Line]) -> str:
-    """What a parting may be by that is no call past fdref, or nothing: an owner's right, or what the program was told
-    that fdref has no part in, as its own number, after which it makes another call."""
-    answer = parting.system.outcome if parting.system else ""
-    if answer in OF_RIGHTS:
-        return MODES
-    if parting.is_asked_otherwise():
-        return NUMBERS
-    before = [it for it in every if it.place < parting.place]
-    return MODES if not parting.is_same_call() and has_looked(before, records[: parting.place]) else ""
-
-
 def doubt(every: list[Past]) -> str:
     """The first thing that may have changed what fdref does not see, or nothing."""
-    kinds = (CALL, STDIO, PROGRAM, PATH, STREAM)
+    kinds = (CALL, STDIO, PROGRAM, PATH, STREAM, LIMIT)
     likely = [it for it in every if it.kind in kinds and not LOOKS.fullmatch(it.call)]
     return f"{likely[0].said(' of ')}, which went past fdref," if likely else ""
+
+
+def made(every: list[Past]) -> list[Past]:
+    """The descriptors that are open natively, and that no call made which fdref knows."""
+    return [it for it in every if it.kind == MADE]
 
 
 def cuts(every: list[Past]) -> bool:

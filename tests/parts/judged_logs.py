@@ -8,8 +8,10 @@ from typing import NamedTuple
 
 from support.counting import Case, Failure, require, same
 from support.frames import trace_of
+from support.plain_model import DEFAULTS
 from support.trees import Ended
 
+import causes
 import judge
 import past
 import some_order
@@ -78,13 +80,56 @@ LOGS = [
         "p0 close 7 = error EBADF; p0 close 8 = error EBADF",
         "0 p0 join = 0; 1 p0 close 7 = error EBADF; 2 p0 close 9 = error EBADF; 3 p0 close 9 = error EBADF",
         ["p0 close 9: close 8, error EBADF: none"],
-        cause=past.NUMBERS,
+        cause=causes.NUMBERS,
     ),
     Logs(
         "a call more",
         "p0 close 7 = error EBADF",
         "0 p0 join = 0; 1 p0 close 7 = error EBADF; 2 p0 close 9 = error EBADF",
         ["p0 close 9: no call, error EBADF: none"],
+        cause=causes.NUMBERS,
+    ),
+    Logs(
+        "a call more, in which the system may have been when it was killed",
+        "p0 close 7 = error EBADF",
+        "0 p0 join = 0; 1 p0 close 7 = error EBADF; 2 p0 close 9 = error EBADF",
+        ["p0 close 9: no call, error EBADF: none"],
+        system_ends=KILLED,
+    ),
+    Logs(
+        "a call less",
+        "p0 close 7 = error EBADF; p0 close 9 = error EBADF",
+        "0 p0 join = 0; 1 p0 close 7 = error EBADF",
+        ["p0 close 9: error EBADF, None: none"],
+        cause=causes.NUMBERS,
+    ),
+    Logs(
+        "a call less, where a timer has ended the run with fdref",
+        "p0 close 7 = error EBADF; p0 close 9 = error EBADF",
+        "0 p0 join = 0; 1 p0 close 7 = error EBADF",
+        ["p0 close 9: error EBADF, None: none"],
+        fdref_ends=Ended(-14, b"", b""),
+        cause=causes.TIMERS,
+    ),
+    Logs(
+        "data of another length, as of a time",
+        "p0 pipe = 0 1; p0 write 1 x6161 = 2; p0 read 0 9 = x6161",
+        "0 p0 join = 0; 1 p0 pipe = 0 1; 2 p0 write 1 x61 = 1; 3 p0 read 0 9 = x61",
+        ["p0 write 1 x61: write 1 x6161, 1: none"],
+        cause=causes.NUMBERS,
+    ),
+    Logs(
+        "data that hold the variables of judge.py",
+        "p0 pipe = 0 1; p0 close 7 = error EBADF",
+        f"0 p0 join = 0; 1 p0 pipe = 0 1; 2 p0 write 1 x{b'FDREF_SOCKET=s'.hex()} = 14",
+        [f"p0 write 1 x{b'FDREF_SOCKET=s'.hex()}: close 7, 14: none"],
+        cause=causes.VARIABLES,
+    ),
+    Logs(
+        "another call after an answer that differs",
+        "p0 pipe = 0 1; p0 close 7 = ok; p0 write 1 x6161 = 2",
+        "0 p0 join = 0; 1 p0 pipe = 0 1; 2 p0 close 7 = error EBADF; 3 p0 write 1 x61 = 1",
+        ["p0 close 7: ok, error EBADF: none", "p0 write 1 x61: write 1 x6161, 1: none"],
     ),
     Logs(
         "a call less, after which a signal ends the run with fdref, as at a bad address",
@@ -321,6 +366,7 @@ LOGS = [
         "0 p0 join = 0; 1 p0 pipe = 0 1; 2 p0 read 0 1 = parked 0; 3 p0 exit = ok; 4 house close-run = ok",
         ["p0 read 0 1: no call, parked 0: none"],
         fdref_ends=KILLED,
+        cause=causes.NUMBERS,
     ),
     Logs(
         "a call that the profile does not have the number for, and one that is no act",
@@ -563,8 +609,8 @@ ORDERS = [
         "rights that fdref has not",
         TWO + "p1 open l w,creat,excl = 2; p2 open l w = error EACCES",
         TWO_HERE + "6 p1 open l w,creat,excl = 2; 7 p2 open l w = 2",
-        f"{OPEN_ORDER}none was found, but {past.MODES} may be why",
-        f"not judged: 1 answer differs without a reason, perhaps by {past.MODES}; {NOT_DECIDED}",
+        f"{OPEN_ORDER}none was found, but {causes.MODES} may be why",
+        f"not judged: 1 answer differs without a reason, perhaps by {causes.MODES}; {NOT_DECIDED}",
         3,
     ),
     Orders(
@@ -614,7 +660,7 @@ ORDERS = [
         "p0 mkfifo f = ok; p0 open f r = 0; -1 p0 open f w = 1; p0 close 7 = ok",
         "0 p0 join = 0; 1 p0 mkfifo f = ok; 2 p0 open f r,nonblock = 0; 3 p0 open f w = 1; 4 p0 close 7 = error EBADF",
         f"{OPEN_ORDER}a thread may have waited in a call",
-        f"not judged: 1 answer differs without a reason, perhaps by {past.NUMBERS}; {NOT_DECIDED}",
+        f"not judged: 1 answer differs without a reason, perhaps by {causes.NUMBERS}; {NOT_DECIDED}",
         3,
     ),
     Orders(
@@ -736,7 +782,7 @@ def names_first() -> None:
     system = as_bytes([f"- {line}" for line in lines_of(lines)])
     verdict = judge.Verdict(judge.Both(one, other, system, as_bytes(logged(trace)), trace_of(trace)), "legal 4 rest 0")
     ends = "the two runs end otherwise, or write something else, perhaps by which process came first, "
-    same((f"verdict: not judged: {ends}{past.NUMBERS}", 3), ending(verdict))
+    same((f"verdict: not judged: {ends}{judge.UNTOLD}", 3), ending(verdict))
 
 
 def first_without() -> None:
@@ -778,17 +824,33 @@ def blames_outputs() -> None:
     """What is written differs because of stdio on a file of fdref only where that is one of the outputs."""
     for descriptor, is_blamed_for_it in (("0", False), ("1", True), ("2", True)):
         every = past.past_of(as_bytes([f"- 2 p0 stdio {descriptor}"]))
-        same(is_blamed_for_it, past.cause_of_output("1", every) is not None)
+        same(is_blamed_for_it, causes.Causes(every, [], [], DEFAULTS).of_output("1") is not None)
 
 
 class Causes(NamedTuple):
-    """What went past fdref before an answer that differs, of a call with descriptor 0, which is `a`, and what is told
-    that it may follow from."""
+    """What went past fdref before an answer that differs, and what is told that it may follow from, and may be by."""
 
     name: str
     past: str
     told: str
+    lines: str = "p0 open a rw,creat = 0; p0 dup 0 = 1; p0 open b rw,creat = 2; p0 fstat 0 = {}"
+    # the answers of the system and of fdref
+    answers: tuple[str, str] = ("regular 5 1", "regular 0 1")
+    by: str = ""
+    # what is noted in the native run
+    made: str = ""
 
+
+A_NUMBER = "p0 open a rw,creat = {}"
+TWO_NUMBERS = ("5", "0")
+NEXT = "p0 open a rw,creat = 0; p0 dup 0 = {}"
+HELLO = ("x6869", "x")
+A_READ = "p0 pipe = 0 1; p0 close 1 = ok; p0 read 0 9 = {}"
+TWO_PIPES = "p0 pipe = 0 1; p0 pipe = 2 3; p0 close 3 = ok; p0 read 2 9 = {}"
+NO_NAME = "p0 open a rw,creat = 0; p0 unlink a = ok; p0 dup 0 = 1; p0 read 1 9 = {}"
+MOVED = "p0 open log rw,creat = 0; p0 rename log b = ok; p0 open b r = 1; p0 read 1 9 = {}"
+OTHER_NAME = "p0 open a rw,creat = 0; p0 rename a b = ok; p0 open b r = 1; p0 read 1 9 = {}"
+MADE = "descriptor 3, which is open, and no call that fdref knows made it"
 
 CAUSES = [
     Causes("the same path", "! 1 p0 path truncate\td/a; ! 1 p0 path unlink\td/b", "truncate of d/a"),
@@ -798,31 +860,57 @@ CAUSES = [
     Causes("another descriptor", "! 1 p0 call fallocate\t5", ""),
     Causes("a path that is looked at", "! 1 p0 path stat\td/a", ""),
     Causes("what only looks", "! 1 p0 call posix_fadvise\t0; ! 1 p0 call syscall of fstat\t0", ""),
+    Causes("what only asks, or lists", "! 1 p0 call poll\t0; - 1 p0 path opendir\t/", ""),
     Causes("stdio on the same file", "- 2 p0 stdio 1; ! 2 p0 call posix_fadvise\t0", "stdio on descriptor 1"),
     Causes("stdio on another file", "- 3 p0 stdio 2", ""),
     Causes("a program", "! 1 p0 program system\tb; ! 1 p0 path stat\td/a", "system of b"),
+    Causes("the other end of a pipe", "! 1 p0 call vmsplice\t1", "vmsplice on descriptor 1", A_READ, HELLO),
+    Causes("an end of another pipe", "! 2 p0 call vmsplice\t1", "", TWO_PIPES, HELLO),
+    Causes("a call with two descriptors", "! 2 p0 call tee\t0", "tee on descriptor 0", TWO_PIPES, HELLO),
+    Causes("a file without a name", "! 3 p0 call pwritev\t0", "pwritev on descriptor 0", NO_NAME, HELLO),
+    Causes("a name that moved on", "! 0 p0 stream fopen\tlog", "fopen of log", MOVED, HELLO),
+    Causes("a name that did not", "! 0 p0 stream fopen\tlog", "", OTHER_NAME, HELLO),
+    Causes("what came later", "! 4 p0 call sendfile\t0", ""),
+    Causes("a limit", "! 1 p0 limit RLIMIT_FSIZE", "the limit RLIMIT_FSIZE", by="the limit RLIMIT_FSIZE"),
+    Causes("setrlimit", "! 1 p0 call setrlimit of RLIMIT_FSIZE", "setrlimit of RLIMIT_FSIZE"),
+    Causes("a kind that is not known", "- 1 p0 strange thing", "thing"),
+    Causes("what leads a program at most", "- 1 p0 timer alarm; - 1 p0 vfork fork; - 1 p0 interrupt read", ""),
+    *[
+        Causes(f"a path to fdref's files: {path}", f"! 1 p0 path open\t{path}", f"open of {path}")
+        for path in ("/dev/fd/3", "/dev/stdin", "/proc/self/fd/3", "/proc/7/cwd/b", "../run/b", "d/../b", ".")
+    ],
+    Causes("paths that lead elsewhere", "! 1 p0 path open\t/etc/passwd; ! 1 p0 path open\td/e/../x", ""),
+    Causes("a rename from a path", "! 1 p0 path rename\td/x", "rename of d/x"),
+    Causes("a symbolic link", "! 1 p0 path symlink\tc", "symlink of c"),
+    Causes("a number, and a stream", "- 0 p0 stream fopen\t/x", "fopen of /x", A_NUMBER, TWO_NUMBERS),
+    Causes("no number free, and a stream", "- 0 p0 stream fopen\t/x", "fopen of /x", NEXT, ("error EMFILE", "1")),
+    Causes("a number, and a file that both open", "! 0 p0 path open\t/x", "", A_NUMBER, TWO_NUMBERS),
+    Causes("a number that is made otherwise", "", MADE, A_NUMBER, TWO_NUMBERS, MADE, "! 0 p0 made 3"),
+    Causes("a number that another process has made", "", "", A_NUMBER, TWO_NUMBERS, made="! 0 p7 made 3"),
+    Causes("no number, and one that is made otherwise", "", "", made="! 0 p0 made 3"),
 ]
 
 
 def is_blamed(causes: Causes) -> None:
     """Just what can change the answer is told to be what it may follow from."""
-    lines = "p0 open a rw,creat = 0; p0 dup 0 = 1; p0 open b rw,creat = 2; p0 fstat 0 = regular {} 1"
-    fdref = "0 p0 join = 0; 1 " + "; ".join(f"{at} {line}" for at, line in enumerate(lines.split("; "), 1))[2:]
-    trace = lines_of(fdref.format(0))
+    trace = ["0 p0 join = 0", *(f"{at} {line}" for at, line in enumerate(lines_of(causes.lines), 1))]
+    trace = lines_of("; ".join(trace).format(causes.answers[1]))
     both = judge.Both(
         WELL,
         WELL,
-        as_bytes([f"- {line}" for line in lines_of(lines.format(5))]),
+        as_bytes([f"- {line}" for line in lines_of(causes.lines.format(causes.answers[0]))]),
         as_bytes(logged(trace)),
         trace_of(trace),
         as_bytes(lines_of(causes.past)),
+        system_past=as_bytes(lines_of(causes.made)),
     )
     verdict = judge.Verdict(both, f"legal {len(trace)} rest 0")
     said = judge.told(verdict, 60, 0).splitlines()
-    told = [line.partition(" from ")[2].partition(" (past")[0] for line in said if line.startswith("may follow ")]
+    told = [line.partition(" from ")[2] for line in said if line.startswith("may follow ")]
+    told = [line.partition(" (past")[0].partition(" (before")[0] for line in told]
     same([causes.told] if causes.told else [], told)
     differs = "1 answer differs without a reason"
-    by_it = f"verdict: not judged: {differs}, perhaps by {causes.told}, which went past fdref"
+    by_it = f"verdict: not judged: {differs}, perhaps by {causes.by or f'{causes.told}, which went past fdref'}"
     same((by_it, 3) if causes.told else (f"verdict: a difference: {differs}", 1), ending(verdict))
 
 

@@ -121,6 +121,7 @@ NOT_JUDGED = "verdict: not judged: "
 ENDS_OTHERWISE = f"{NOT_JUDGED}the two runs end otherwise, or write something else"
 NUMBERS = "the number of a process, an address or the time"
 MODES = "modes, owners and times, which are fdref's own"
+OTHER_WAY = "the calls differ, not the answers: perhaps by "
 HOLDS = "a thread that waits in read and holds its process"
 BAD_ADDRESS = "a crash (SIGSEGV) is no agreement: with the shim a bad address is no EFAULT"
 
@@ -166,7 +167,7 @@ PROGRAMS = [
             WELL,
             "  5 p0 open a rw,creat = 3",
             NONE,
-            f"the calls differ, not the answers: by {NUMBERS}, perhaps",
+            f"{OTHER_WAY}{NUMBERS}",
             "       1 without a reason",
             f"{NOT_JUDGED}1 answer differs without a reason, perhaps by {NUMBERS}",
         ),
@@ -181,7 +182,7 @@ PROGRAMS = [
             "system: p0 fstat 3 = regular 0 1",
             "fdref:  no further call",
             NONE,
-            f"perhaps by {MODES}",
+            f"{OTHER_WAY}{MODES}",
             f"{NOT_JUDGED}1 answer differs without a reason, perhaps by {MODES}",
         ),
     ),

@@ -1,0 +1,290 @@
+"""What may be why the two runs of a program part that is no answer of fdref.
+
+The rule. A difference is an answer that differs to the same call, where nothing that is told beside the calls may be
+why. Where a process makes another call, its program went another way: by an answer that differed before, which is told
+then, else by what no answer tells, as the time. That is no difference, and what it may be by is named. Where the call
+is the same, all that is told before it, of any process, may be why, but for what is known to be harmless:
+
+- What changes nothing looks at a file, lists a folder, or asks for readiness (LOOKS and LISTS of past.py, and ASKS): no
+  later answer tells it. A vfork, a timer and a signal in a call lead a program another way at most.
+- What changes one file, by its descriptor (OF_A_DESCRIPTOR), is harmless to a call that has another file, pipe and
+  description behind it.
+- What changes one name, by its path (OF_A_PATH), is harmless to other names, and to what is behind these. It may not
+  lead to files of fdref by another spelling, or by a descriptor (leads_to_files). What makes such a path is not here.
+- What takes a number, as a stream, which has a low one natively, is harmless where no answer tells a number, that it is
+  open, or that none is free.
+- A child that a signal ended is kept for a while at most, and holds the ends of pipes (OF_PIPES of past.py).
+
+What is told and not listed here, as a new kind of it, may be why any answer differs.
+"""
+
+import os
+import re
+from collections.abc import Sequence
+
+from support import plain_model
+from support.auditing import Judge, act_of
+from support.call_logs import Log, word_of
+from support.footprints import CHANGE_DESCRIPTORS
+from support.plain_model import Limits
+from support.runs import Line
+
+import past
+from partings import Finding, Parting, act_at, names_behind
+from past import Past
+from reach import Reach, behind
+
+# What asks for readiness, or for what fdref does not tell: natively it changes no file.
+ASKS = re.compile(
+    r"_*p?(?:poll|select)(?:_chk)?|epoll_(?:ctl|p?wait2?)|f?statv?fs(?:64)?|_*statfs|ttyname(?:_r)?|tcgetattr"
+    r"|tcget(?:sid|pgrp)|getsockname|getpeername|getsockopt|sockatmark"
+)
+# What changes no other file than the one behind its descriptor, and no number.
+OF_A_DESCRIPTOR = re.compile(
+    r"(?:syscall of )?(?:p?(?:read|write)v?(?:64)?(?:v?2)?|lseek|ftruncate(?:64)?)|lseek by SEEK_DATA and its kin"
+    r"|mmap(?:64)?|(?:posix_)?fallocate(?:64)?|flock|lockf(?:64)?|aio_(?:read|write|fsync)(?:64)?|vmsplice"
+    r"|fchmod|fchown|futimens|futimes|fsetxattr|fremovexattr|fcntl with .*|ioctl"
+)
+# What changes no other file than the one that its path leads to, and makes no other path to one.
+OF_A_PATH = re.compile(
+    r"(?:open(?:at)?|creat|fopen|truncate|mko?stemps?)(?:64)?|mkdtemp|mktemp|tempnam|unlink(?:at)?|remove|rmdir"
+    r"|mkdir(?:at)?|mkfifo(?:at)?|mknod(?:at)?|l?chmod|l?chown|fch(?:mod|own)at|l?utimes?|utimensat|futimesat"
+    r"|l?(?:set|remove)xattr"
+)
+# Kinds that lead a program another way at most.
+ASIDE = (past.VFORK, past.INTERRUPT, past.CUT, past.TIMER)
+# Kinds by which a program may go another way, beside what tells it something else.
+LEADS = (past.SIGNAL, past.LIMIT, past.VFORK, past.INTERRUPT)
+# What makes a name that is another one in each run.
+MAKES_A_NAME = re.compile(r"mko?stemps?(?:64)?|mkdtemp|mktemp|tempnam")
+# Paths by which a descriptor, or a folder of a process, has another name.
+BY_DESCRIPTOR = re.compile(
+    r"/dev/(?:fd|stdin|stdout|stderr)\b.*|/proc/[^/]+/(?:task/[^/]+/)?(?:fd|cwd|root|map_files)\b.*"
+)
+
+# How much may differ because of something: nothing, what it has to do with, the numbers of descriptors, or all.
+NOTHING, ITS_OWN, ALL = "nothing", "its own", "all"
+
+# What calls may differ by that no call tells.
+MODES = "modes, owners and times, which are fdref's own"
+NUMBERS = "the number of a process, an address or the time"
+TIMERS = "a timer, since calls take longer with fdref"
+VARIABLES = "the environment, in which judge.py sets variables of its own (FDREF_..)"
+OF_RIGHTS = ("error EACCES", "error EPERM")
+# The name of the variables, as data of a write may have it.
+VARIABLE = b"FDREF_"
+
+
+# ---- what one of them may change
+
+
+def leads_to_files(path: str, folder: str) -> bool:
+    """Whether a path with a slash may lead to files of fdref, which have plain names in a folder, or to a descriptor.
+    What the system has links to from outside is known; a link that the program makes is told by itself."""
+    if is_plain(path):
+        return False
+    if not path.startswith("/"):
+        return os.path.normpath(path).startswith("..") or "/" not in os.path.normpath(path)
+    spelled = {os.path.normpath(path), os.path.realpath(path)} if folder else set()
+    own = {os.path.normpath(folder), os.path.realpath(folder)} if folder else set()
+    return bool(BY_DESCRIPTOR.fullmatch(path)) or any(f"{it}/".startswith(f"{one}/") for it in spelled for one in own)
+
+
+def is_plain(path: str) -> bool:
+    """Whether it is a name that fdref may have, which is that of the file also in the system."""
+    return bool(path) and "/" not in path.removeprefix("./").lstrip("/") and path[:1] != "/" and path not in (".", "..")
+
+
+def extent(one: Past, folder: str) -> str:
+    """How much of what fdref has may be another one because of it, but for numbers."""
+    is_path = one.kind in (past.PATH, past.STREAM)
+    if one.kind in (*ASIDE, past.MADE) or ((is_path or one.kind == past.CALL) and changes_nothing(one)):
+        return NOTHING
+    if one.kind == past.STDIO or (one.descriptor() and OF_A_DESCRIPTOR.fullmatch(one.call)):
+        return ITS_OWN
+    if is_path and OF_A_PATH.fullmatch(one.call) and not leads_to_files(one.name, folder):
+        return ITS_OWN
+    return ALL
+
+
+def changes_nothing(one: Past) -> bool:
+    """Whether a call looks, lists or asks, and changes no file of the system."""
+    return any(kind.fullmatch(one.call) for kind in (past.LOOKS, past.LISTS, ASKS))
+
+
+def takes_number(one: Past) -> bool:
+    """Whether it may natively take a number that is free with fdref."""
+    return one.kind in (past.STREAM, past.MADE) or bool(past.TAKES.fullmatch(one.call))
+
+
+def tells_number(parting: Parting) -> bool:
+    """Whether an answer tells a number of a descriptor, that there is one, or that none is free."""
+    both = [line for line in (parting.system, parting.fdref) if line]
+    outcomes = [line.outcome for line in both]
+    if any(outcome in ("error EBADF", "error EMFILE") for outcome in outcomes):
+        return True
+    return word_of(both[0]) in CHANGE_DESCRIPTORS and "".join(outcomes).replace(" ", "").isdigit()
+
+
+# ---- what differences have to do with
+
+
+def tells_variables(line: Line) -> bool:
+    """Whether a call writes what is in the environment by this tool."""
+    try:
+        act = act_of(line.act)
+    except plain_model.NotAnAct:
+        return False
+    return any(isinstance(field, bytes) and VARIABLE in field for field in act.fields)
+
+
+def answered(parting: Parting, records: Sequence[Line]) -> int:
+    """The place in the trace at which fdref answered, or where its process exited while it waited, or the end."""
+    line = parting.fdref
+    if line and line.place.isdigit() and not line.outcome.startswith(("parked ", "part ")):
+        return int(line.place)
+    ends = (place for place in range(parting.place, len(records)) if records[place].act == f"p{parting.number} exit")
+    return next(ends, len(records))
+
+
+class Causes:
+    """What is told beside the calls, of which some may be why an answer differs. What the system alone has told is of
+    processes by their numbers there."""
+
+    def __init__(
+        self,
+        every: list[Past],
+        partings: Sequence[Parting],
+        records: list[Line],
+        limits: Limits,
+        folder: str = "",
+        made: Sequence[Past] = (),
+        system: Log | None = None,
+        is_killed: bool = False,
+    ) -> None:
+        self.every = every
+        self.records = records
+        self.folder = folder
+        self.is_killed = is_killed
+        numbers = {number: way for way, number in system.numbers.items()} if system else {}
+        self.made = [(numbers[it.number], it) for it in made if it.kind == past.MADE and it.number in numbers]
+        self.places = {id(it): answered(it, records) for it in partings}
+        self.reached: set[int] = set()
+        self.things: dict[int, frozenset[object]] = {}
+        self.follow(partings, limits)
+
+    def follow(self, partings: Sequence[Parting], limits: Limits) -> None:
+        """Goes through the records, and finds what each cause has to do with, what each call that parts has, and
+        whether something of that has come to it."""
+        judge, reach, done = Judge(limits), Reach(), 0
+        causes = [(it.place + 1, 0, at) for at, it in enumerate(self.every)]
+        calls = [(self.places[id(it)], 1, at) for at, it in enumerate(partings)]
+        for until, is_call, at in sorted(causes + calls):
+            for line in self.records[done:until]:
+                act = act_of(line.act)
+                passes = reach.passes(judge.world, act)
+                outcome = judge.outcome_of(act)
+                if passes:
+                    reach.has_passed(judge.world, act, outcome)
+            done = max(done, until)
+            if is_call:
+                self.meet(partings[at], judge.world, reach)
+            else:
+                self.begin(at, judge.world, reach)
+
+    def begin(self, at: int, world: plain_model.World, reach: Reach) -> None:
+        """What a cause has to do with, when it is there."""
+        one = self.every[at]
+        process = world.processes.get(one.number)
+        fd = one.descriptor()
+        description = process.table.get(int(fd)) if process and fd else None
+        names = names_behind(world, one.number, fd) if fd else {one.name.rpartition("/")[2]} - {""}
+        known = [world.names[name] for name in map(str.encode, names) if name in world.names]
+        things = frozenset(behind(description) if description else known)
+        self.every[at] = one._replace(names=frozenset(names), things=things)
+        if extent(one, self.folder) == ITS_OWN:
+            reach.things |= things | {("name", name.encode()) for name in ({*names} if not fd else ())}
+
+    def meet(self, parting: Parting, world: plain_model.World, reach: Reach) -> None:
+        """What a call has to do with, as it parts."""
+        act = act_at(parting)
+        if act:
+            self.things[id(parting)] = frozenset(reach.of(world, act))
+            if reach.reaches(world, act):
+                self.reached.add(id(parting))
+
+    def is_left(self, parting: Parting) -> bool:
+        """Whether the system was killed while it may have been in the call that fdref answers: it made no other one."""
+        return self.is_killed and not parting.system
+
+    def of(self, finding: Finding) -> Past | None:
+        """The one that a finding may follow from that has most to do with it, and of these the last."""
+        parting = finding.parting
+        acts = [line.act.split(" ") for line in (parting.system, parting.fdref) if line]
+        descriptor = acts[0][2] if acts[0][2:] and acts[0][2].isdigit() else ""
+        likely = self.of_call(finding) if parting.is_same_call() else self.of_way(parting)
+        return past.last_of(likely, finding.names, descriptor, self.things.get(id(parting), frozenset()))
+
+    def of_call(self, finding: Finding) -> list[Past]:
+        """Those by which an answer to the same call may differ."""
+        parting = finding.parting
+        place, things = self.places[id(parting)], self.things.get(id(parting), frozenset())
+        before = [it for it in self.every if it.place < place or it.kind == past.THREAD]
+        known = [it for it in before if extent(it, self.folder) == ITS_OWN]
+        near = [it for it in known if it.names & finding.names or it.things & things]
+        found = near or (known if id(parting) in self.reached else [])
+        found += [it for it in before if extent(it, self.folder) == ALL and self.can_be(it, parting)]
+        if tells_number(parting):
+            made = [it for way, it in self.made if parting.way[: len(way)] == way]
+            found += made or [it for it in before if takes_number(it)]
+        return found
+
+    @staticmethod
+    def can_be(one: Past, parting: Parting) -> bool:
+        """Whether a call may differ by what may change all: a child that was kept changes what is told of pipes."""
+        return one.kind != past.SIGNAL or not parting.fdref or word_of(parting.fdref) in past.OF_PIPES
+
+    def of_way(self, parting: Parting) -> list[Past]:
+        """Those by which a program may have gone another way."""
+        before = [it for it in self.every if it.place < parting.place or it.kind == past.THREAD or not parting.fdref]
+        is_left = self.is_left(parting)
+        return [
+            it
+            for it in before
+            if self.tells_otherwise(it) or it.kind in LEADS or (is_left and extent(it, self.folder) != NOTHING)
+        ]
+
+    def of_output(self, descriptor: str) -> Past | None:
+        """What it may follow from that something else was written to a descriptor: of what has most to do with that
+        the first, since the first line that differs is told. Stdio on a file that is none of the outputs changes
+        neither."""
+        likely = [it for it in self.every if self.tells_otherwise(it)]
+        likely = [it for it in likely if it.kind != past.STDIO or it.call in ("1", "2")]
+        return past.last_of(likely[::-1], frozenset(), descriptor)
+
+    def tells_otherwise(self, one: Past) -> bool:
+        """Whether a program may be told something else than natively: also by a call with a path that fails since fdref
+        has the file, or by one that leads to it natively."""
+        if one.tells_otherwise():
+            return True
+        is_path = one.kind in (past.PATH, past.STREAM)
+        is_file = is_plain(one.name) and bool(one.things)
+        return is_path and (
+            is_file or leads_to_files(one.name, self.folder) or bool(MAKES_A_NAME.fullmatch(one.call))
+        )
+
+    def other(self, parting: Parting, is_timed: bool) -> str:
+        """What a parting may be by that is no call past fdref, or nothing: an owner's right, or what a program was told
+        that fdref has no part in, after which it makes another call. Whether a timer ended a run is told."""
+        answer = parting.system.outcome if parting.system else ""
+        if answer in OF_RIGHTS:
+            return MODES
+        if parting.is_same_call() or self.is_left(parting):
+            return ""
+        if any(line and tells_variables(line) for line in (parting.system, parting.fdref)):
+            return VARIABLES
+        before = [it for it in self.every if it.place < parting.place]
+        if is_timed or any(it.kind == past.TIMER for it in before):
+            return TIMERS
+        is_asked = parting.is_asked_otherwise()
+        return MODES if not is_asked and past.has_looked(before, self.records[: parting.place]) else NUMBERS
