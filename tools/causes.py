@@ -269,9 +269,9 @@ class Causes:
             return True
         is_path = one.kind in (past.PATH, past.STREAM)
         is_file = is_plain(one.name) and bool(one.things)
-        return is_path and (
-            is_file or leads_to_files(one.name, self.folder) or bool(MAKES_A_NAME.fullmatch(one.call))
-        )
+        # the folder itself is the system's in both runs
+        is_led = os.path.normpath(one.name) != "." and leads_to_files(one.name, self.folder)
+        return is_path and (is_file or is_led or bool(MAKES_A_NAME.fullmatch(one.call)))
 
     def other(self, parting: Parting, is_timed: bool) -> str:
         """What a parting may be by that is no call past fdref, or nothing: an owner's right, or what a program was told

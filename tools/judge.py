@@ -120,8 +120,10 @@ START_SECONDS = 600
 AUDIT_SECONDS = 120
 END_SECONDS = 20
 SESSIONS_MOST = 64
-# The folder in which a program runs.
+# The folder in which a program runs; of both runs, where they are, and where it is kept what was noted beside calls.
 RUN = "run"
+WHERE = {"fdref": "with fdref", "system": "on the system"}
+PAST = {"fdref": "past", "system": "system.past"}
 # What is said where there are more processes than the server takes.
 MOST_PROCESSES = f" (--sessions, {SESSIONS_MOST} at most)"
 PAUSE = 0.005
@@ -313,6 +315,12 @@ class Looker:
                 print(f"judge.py: {told}", file=sys.stderr, flush=True)
 
 
+def tell_that_others_go_on(where: str, status: int) -> None:
+    """Tells that a program has ended, and that others of its processes have not."""
+    told = f"{where} the program itself {how_it_ended(status)}, and others of its processes go on"
+    print(f"judge.py: {told}", file=sys.stderr, flush=True)
+
+
 class Job:
     """A program that is to be judged, and how."""
 
@@ -329,30 +337,39 @@ class Job:
 
     def ran(self, name: str, is_over: Callable[[], bool] = never, **more: str) -> tuple[Ended, bytes]:
         """How the program ends in an empty folder, and the log of its calls. It is killed once it is over."""
-        log = os.path.join(self.folder, f"{name}.log")
-        Path(log).touch()
-        env = environment(self.shim, log, **more)
-        # the same for both runs, since a program may tell its name
+        # the names are the same for both runs, since a program may tell them
+        log, noted = self.noted()
+        env = environment(self.shim, str(log), FDREF_PAST=str(noted), FDREF_STARTS="1", **more)
+        goes_on = partial(tell_that_others_go_on, WHERE[name])
         folder = os.path.join(self.folder, RUN)
         os.mkdir(folder)
         try:
             with open(self.stdin, "rb") as stdin:
-                ended = run_tree(self.words, folder, env, stdin, self.seconds, limit_descriptors, is_over)
+                ended = run_tree(self.words, folder, env, stdin, self.seconds, limit_descriptors, is_over, goes_on)
         except OSError as fault:
             raise CannotJudge(f"{self.words[0]}: {fault.strerror}") from None
-        os.rename(folder, f"{folder}-{name}")
-        return ended, Path(log).read_bytes()
+        for path, kept in ((folder, f"{RUN}-{name}"), (log, f"{name}.log"), (noted, PAST[name])):
+            os.rename(path, os.path.join(self.folder, kept))
+        return ended, Path(self.folder, f"{name}.log").read_bytes()
+
+    def noted(self) -> tuple[Path, Path]:
+        """The log of a run, and what is noted beside it, which are there from now on."""
+        paths = Path(self.folder, "log"), Path(self.folder, "noted")
+        for path in paths:
+            path.touch()
+        return paths
+
+    def past(self, name: str) -> bytes:
+        """What was noted of a run beside its calls."""
+        return Path(self.folder, PAST[name]).read_bytes()
 
     def both(self) -> Both:
         """Runs it with fdref and on the system."""
         strict = {"FDREF_STRICT": "1"} if self.is_strict else {}
         with Server(self.program, self.folder, self.sessions, self.limits) as server:
-            noted = Path(self.folder, "past")
-            noted.touch()
             still = Standstill(server.trace, partial(seen_beside, server.process.pid))
-            fdref, fdref_log = self.ran(
-                "fdref", Looker(still, noted).is_over, FDREF_SOCKET=server.path, FDREF_PAST=str(noted), **strict
-            )
+            looker = Looker(still, self.noted()[1])
+            fdref, fdref_log = self.ran("fdref", looker.is_over, FDREF_SOCKET=server.path, **strict)
             server.finish()
             trace = Path(server.trace).read_bytes()
         left_out = IS_LEFT_OUT.search(fdref.stderr) if self.is_strict else None
@@ -360,17 +377,15 @@ class Job:
             raise CannotJudge(f"{LEAVES_OUT}{left_out[1].decode('utf-8', 'replace')}")
         said = IS_TOLD.findall(fdref.stderr)
         if WITHIN in said:
-            raise NotJudged("; ".join([TOLD_WITHIN, *past.told_past(past.past_of(noted.read_bytes()))]))
+            raise NotJudged("; ".join([TOLD_WITHIN, *past.told_past(past.past_of(self.past("fdref")))]))
         if any(ALL_TAKEN in text for text in said) and processes_in(trace) >= self.sessions:
             raise CannotJudge(f"has more than {self.sessions} processes in all{MOST_PROCESSES}")
         if fdref.status == NOT_ASKED and said:
             lost = f"the server gave no answer: {said[-1].decode('utf-8', 'replace')}"
-            raise NotJudged("; ".join([lost, *past.told_past(past.past_of(noted.read_bytes()))]))
-        cuts = Path(self.folder, "cuts")
-        cuts.touch()
-        system, system_log = self.ran("system", FDREF_STARTS="1", FDREF_PAST=str(cuts))
+            raise NotJudged("; ".join([lost, *past.told_past(past.past_of(self.past("fdref")))]))
+        system, system_log = self.ran("system")
         return Both(
-            system, fdref, system_log, fdref_log, trace, noted.read_bytes(), still.told, cuts.read_bytes()
+            system, fdref, system_log, fdref_log, trace, self.past("fdref"), still.told, self.past("system")
         )
 
     def audited(self) -> str:
@@ -539,7 +554,12 @@ def how(ended: Ended, seconds: float) -> str:
     """How a program ended, for a reader."""
     if ended.status is None:
         return f"did not end in {seconds:g} seconds, and was killed"
-    return f"ended with status {ended.status}" if ended.status >= 0 else f"ended by signal {-ended.status}"
+    return how_it_ended(ended.status)
+
+
+def how_it_ended(status: int) -> str:
+    """How a program ended by itself, for a reader."""
+    return f"ended with status {status}" if status >= 0 else f"ended by signal {-status}"
 
 
 def told_ends(verdict: Verdict, seconds: float) -> list[str]:
@@ -548,7 +568,8 @@ def told_ends(verdict: Verdict, seconds: float) -> list[str]:
     system, fdref = how(both.system, seconds), both.still or how(both.fdref, seconds)
     lines = [f"both {system}"] if system == fdref else [f"system: {system}", f"fdref:  {fdref}"]
     if both.system.status is None and both.fdref.status is None and not both.still:
-        lines = [f"neither ended in {seconds:g} seconds: both were killed", *told_waits(verdict.compared.records)]
+        lines = [f"neither ended in {seconds:g} seconds: both were killed", *told_firsts(both)]
+        lines += told_waits(verdict.compared.records)
     crash = crash_of(both)
     crashes = [("a crash", crash)] if crash else []
     for who, name in crashes + [("a child's crash", name) for name in verdict.crashes]:
@@ -565,6 +586,15 @@ def told_ends(verdict: Verdict, seconds: float) -> list[str]:
             is_known = cause and past.BETWEEN.fullmatch(cause.call)
             lines += [] if is_known else past.told_looks(every, verdict.compared.records)
     return lines
+
+
+def told_firsts(both: Both) -> list[str]:
+    """How the program itself had ended, where only others of its processes went on."""
+    firsts = {WHERE["system"]: both.system.first, WHERE["fdref"]: both.fdref.first}
+    ended = {where: how_it_ended(status) for where, status in firsts.items() if status is not None}
+    if len(ended) == 2 and len(set(ended.values())) == 1:
+        ended = {"in both": ended[WHERE["system"]]}
+    return [f"{where} the program itself {it}, and others of its processes went on" for where, it in ended.items()]
 
 
 def do_outputs_differ(both: Both) -> bool:
@@ -666,7 +696,8 @@ def told_not_judged(verdict: Verdict) -> str:
     if verdict.is_caused():
         return told_unexplained(verdict)
     if not verdict.has_ended():
-        return "neither of the two ended"
+        is_gone = verdict.both.system.first is not None and verdict.both.fdref.first is not None
+        return "neither of the two ended" + (", but for the program itself" if is_gone else "")
     if crash_of(verdict.both) or verdict.crashes:
         return "a crash is no agreement"
     cause, order = verdict.cause_of_end(), verdict.order

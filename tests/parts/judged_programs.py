@@ -115,6 +115,11 @@ STILL = (
 )
 NEITHER = "neither ended in 2 seconds: both were killed"
 WELL = "both ended with status 0"
+GOES_ON = "in both the program itself ended with status 0, and others of its processes went on"
+GO_ON = b"".join(
+    b"judge.py: %s the program itself ended with status 0, and others of its processes go on\n" % where
+    for where in (b"with fdref", b"on the system")
+)
 THREAD = b"judge.py: a thread waits in read, and no other one can make a call meanwhile\n"
 SIGNAL = b"judge.py: a signal comes while read waits, and ends no call of fdref\n"
 NOT_JUDGED = "verdict: not judged: "
@@ -439,7 +444,7 @@ PROGRAMS = [
     # pipes of 2,000 bytes have room, and those of 1,999 have not
     Judged("stays", ("fills",), 0, (WELL,), ("--pipe-capacity", "2000")),
     Judged("stays", ("fills",), 3, ("system: ended with status 0", "fdref:  stood still"), ("--pipe-capacity", "1999")),
-    Judged("stays", ("leaves",), 3, (NEITHER,), SOON),
+    Judged("stays", ("leaves",), 3, (NEITHER, GOES_ON, "verdict: not judged: neither of"), SOON, GO_ON),
 ]
 
 

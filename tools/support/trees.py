@@ -15,14 +15,18 @@ PAUSE = 0.005
 LOOK = 0.2
 # How long it may take until what was killed is gone.
 GOING = 10.0
+# How long others of a program may go on after it has ended until that is told.
+TOLD_AFTER = 1.0
 
 
 class Ended(NamedTuple):
-    """How a program ended, or None where it was still running and was killed; and what it wrote."""
+    """How a program ended, or None where it was still running and was killed; and what it wrote. Where only others of
+    it were still running, how itself had ended."""
 
     status: int | None
     stdout: bytes
     stderr: bytes
+    first: int | None = None
 
 
 def takes_over(is_on: int) -> None:
@@ -63,6 +67,9 @@ class Tree:
         stdin: int | IO[bytes],
         before: Callable[[], None] | None,
     ) -> None:
+        # when the program itself was seen to have ended, and whether it was told that others go on
+        self.gone = 0.0
+        self.has_told = False
         self.others = {number for number, parent in parents().items() if parent == os.getpid()}
         takes_over(1)
         pipe = subprocess.PIPE
@@ -100,26 +107,46 @@ class Tree:
                     os.kill(number, signal.SIGKILL)
             time.sleep(PAUSE)
 
-    def ended(self, seconds: float, is_over: Callable[[], bool]) -> Ended:
+    def ended(self, seconds: float, is_over: Callable[[], bool], goes_on: Callable[[int], None]) -> Ended:
         """How it ends by itself, with all that comes of it, or that it was killed: after so many seconds, or once it is
-        over."""
+        over. `goes_on` is told its status where others go on for longer than it."""
         until = time.monotonic() + seconds
         while True:
             try:
                 stdout, stderr = self.process.communicate(timeout=min(LOOK, max(until - time.monotonic(), 0)))
                 break
             except subprocess.TimeoutExpired:
-                if time.monotonic() >= until or is_over():
+                is_late = time.monotonic() >= until
+                status = self.status(goes_on, is_late)
+                if is_late or is_over():
                     self.kill()
-                    return Ended(None, *self.process.communicate())
-        while self.left() and time.monotonic() < until and not is_over():
+                    return Ended(None, *self.process.communicate(), status)
+        while (left := self.left()) and time.monotonic() < until and not is_over():
+            self.status(goes_on)
             time.sleep(PAUSE)
-        return Ended(None if self.left() else self.process.returncode, stdout, stderr)
+        if left:
+            return Ended(None, stdout, stderr, self.status(goes_on, time.monotonic() >= until))
+        return Ended(self.process.returncode, stdout, stderr)
+
+    def status(self, goes_on: Callable[[int], None], is_late: bool = False) -> int | None:
+        """How the program itself has ended, if it has. That others go on is told once, after a while or late."""
+        status, now = self.process.poll(), time.monotonic()
+        if status is None:
+            return None
+        self.gone = self.gone or now
+        if not self.has_told and (is_late or now - self.gone > TOLD_AFTER):
+            self.has_told = True
+            goes_on(status)
+        return status
 
 
 def never() -> bool:
     """Nothing is over."""
     return False
+
+
+def untold(_: int) -> None:
+    """Nobody asks."""
 
 
 def run_tree(
@@ -130,13 +157,15 @@ def run_tree(
     seconds: float,
     before: Callable[[], None] | None = None,
     is_over: Callable[[], bool] = never,
+    goes_on: Callable[[int], None] = untold,
 ) -> Ended:
     """Runs a program in a folder, at most so many seconds, and leaves no process of it. `before` is called in it at its
-    start; `is_over` tells at times whether it is to be killed sooner."""
+    start; `is_over` tells at times whether it is to be killed sooner; `goes_on` is told its status where others of it
+    go on for longer."""
     try:
         tree = Tree(words, folder, env, stdin, before)
         try:
-            return tree.ended(seconds, is_over)
+            return tree.ended(seconds, is_over, goes_on)
         finally:
             tree.kill()
     finally:
