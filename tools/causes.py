@@ -67,7 +67,7 @@ NOTHING, ITS_OWN, ALL = "nothing", "its own", "all"
 
 # What calls may differ by that no call tells.
 MODES = "modes, owners and times, which are fdref's own"
-NUMBERS = "the number of a process, an address or the time"
+NUMBERS = "the number of a process, an address, the time or a random number"
 TIMERS = "a timer, since calls take longer with fdref"
 VARIABLES = "the environment, in which judge.py sets variables of its own (FDREF_..)"
 OF_RIGHTS = ("error EACCES", "error EPERM")
@@ -172,6 +172,7 @@ class Causes:
         self.reached: set[int] = set()
         self.things: dict[int, frozenset[object]] = {}
         self.follow(partings, limits)
+        self.extents = {id(it): extent(it, folder) for it in self.every}
 
     def follow(self, partings: Sequence[Parting], limits: Limits) -> None:
         """Goes through the records, and finds what each cause has to do with, what each call that parts has, and
@@ -230,10 +231,10 @@ class Causes:
         parting = finding.parting
         place, things = self.places[id(parting)], self.things.get(id(parting), frozenset())
         before = [it for it in self.every if it.place < place or it.kind == past.THREAD]
-        known = [it for it in before if extent(it, self.folder) == ITS_OWN]
+        known = [it for it in before if self.extents[id(it)] == ITS_OWN]
         near = [it for it in known if it.names & finding.names or it.things & things]
         found = near or (known if id(parting) in self.reached else [])
-        found += [it for it in before if extent(it, self.folder) == ALL and self.can_be(it, parting)]
+        found += [it for it in before if self.extents[id(it)] == ALL and self.can_be(it, parting)]
         if tells_number(parting):
             made = [it for way, it in self.made if parting.way[: len(way)] == way]
             found += made or [it for it in before if takes_number(it)]
@@ -251,7 +252,7 @@ class Causes:
         return [
             it
             for it in before
-            if self.tells_otherwise(it) or it.kind in LEADS or (is_left and extent(it, self.folder) != NOTHING)
+            if self.tells_otherwise(it) or it.kind in LEADS or (is_left and self.extents[id(it)] != NOTHING)
         ]
 
     def of_output(self, descriptor: str) -> Past | None:

@@ -134,9 +134,17 @@ LEAVES_OUT = "uses what fdref leaves out: "
 # What the shim says where a call waits that its process is not in any more, and what may be why.
 WITHIN = b"a call comes while another one of the process waits, as from a handler of a signal"
 TOLD_WITHIN = (
-    "a call is made while another one of the same process waits: by a handler of a signal, or after a jump out of one; "
-    "the library cannot do that"
+    "a call is made while another one of the same process waits: by a handler of a signal or of pthread_atfork, or "
+    "after a jump out of one; the library cannot do that"
 )
+NO_CALLS = (
+    "made none of the calls that fdref knows, or does not load the shim, or not in time, as a static program, one that "
+    "is built with -fsanitize=address or thread, or one that is given an LD_PRELOAD of its own, as by env: what stands "
+    "before judge.py is added to the shim"
+)
+# What is said where the connection is lost, and what may be why.
+IS_LOST = b"the connection is lost in "
+TOLD_LOST = "perhaps by a clone, or by a system call that closes it, which are not seen"
 ALL_TAKEN = b"all sessions are taken"
 IS_TOLD = re.compile(rb"^fdref: (.*)$", re.MULTILINE)
 IS_LEFT_OUT = re.compile(rb"^fdref: (.*) is left out$", re.MULTILINE)
@@ -382,7 +390,8 @@ class Job:
             raise CannotJudge(f"has more than {self.sessions} processes in all{MOST_PROCESSES}")
         if fdref.status == NOT_ASKED and said:
             lost = f"the server gave no answer: {said[-1].decode('utf-8', 'replace')}"
-            raise NotJudged("; ".join([lost, *past.told_past(past.past_of(self.past("fdref")))]))
+            why = [TOLD_LOST] if said[-1].startswith(IS_LOST) else []
+            raise NotJudged("; ".join([lost, *why, *past.told_past(past.past_of(self.past("fdref")))]))
         system, system_log = self.ran("system")
         return Both(
             system, fdref, system_log, fdref_log, trace, self.past("fdref"), still.told, self.past("system")
@@ -422,12 +431,8 @@ class Verdict:
         self.made = past.made(past.past_of(both.system_past))
         self.crashes = [CRASHES[number] for number in past.signals(self.past) if number in CRASHES]
         if not self.compared.fdref.total() and not self.compared.system.total():
-            none = (
-                "made none of the calls that fdref knows, or does not load the shim, as a static program, or one that "
-                "is given an LD_PRELOAD of its own, as by env: what stands before judge.py is added to the shim"
-            )
-            told = told_started(self.compared.started) + past.told_past(self.past)
-            raise CannotJudge("; ".join([none, *told]))
+            told = told_started(self.compared.started) + past.told_past(self.past) + told_fault(both.fdref)
+            raise CannotJudge("; ".join([NO_CALLS, *told]))
         if self.compared.processes > sessions:
             counted = f"has {self.compared.processes} processes, and the server takes {sessions}"
             raise CannotJudge(f"{counted}{MOST_PROCESSES}")
@@ -542,6 +547,14 @@ class Verdict:
 
 
 # ---- telling
+
+
+def told_fault(ended: Ended) -> list[str]:
+    """How a program without a call ended, and the last that it wrote on standard error, where either tells a fault."""
+    wrote = ended.stderr.decode("utf-8", "replace").strip().rpartition("\n")[2]
+    if ended.status is None or (ended.status == 0 and not wrote):
+        return []
+    return [f"it {how_it_ended(ended.status)}" + (f", and wrote {wrote!r} on standard error" if wrote else "")]
 
 
 def crash_of(both: Both) -> str:

@@ -24,7 +24,10 @@ INTERRUPT = "interrupt"
 TIMER, LIMIT, MADE = "timer", "limit", "made"
 COUNTED = {PATH: "path", STREAM: "stream", PROGRAM: "program", CALL: "other call", LIMIT: "limit"}
 
-# Calls that change nothing, and tell a program nothing else than natively, or nothing that it goes by.
+# Kinds that have changed nothing in the native run which has no line, or are asked for by themselves.
+UNDOUBTED = (THREAD, SIGNAL, VFORK, CUT, INTERRUPT, TIMER, MADE)
+
+# Calls that look, or hasten what comes anyway: they change no file, but may tell something else than natively.
 LOOKS = re.compile(
     r"(?:syscall of )?_*(?:[lf]?stat\w*|newfstatat|f?access(?:at)?|eaccess|euidaccess|f?pathconf.*|realpath\w*"
     r"|readlink\w*|canonicalize_file_name|[lf]?getxattr|f?l?listxattr|ftok|name_to_handle_at|isfdtype"
@@ -62,7 +65,7 @@ class Past(NamedTuple):
             THREAD: f"a thread that waits in {self.call} and holds its process",
             SIGNAL: f"signal {self.call}, by which a child ended that fdref may have kept for longer",
             MADE: f"descriptor {self.call}, which is open, and no call that fdref knows made it",
-            LIMIT: f"the limit {self.call}",
+            LIMIT: f"setrlimit of {self.call}",
             VFORK: "a vfork, whose child shares no memory here",
             INTERRUPT: f"a signal in {self.call}, which ends no call of fdref",
         }
@@ -72,7 +75,7 @@ class Past(NamedTuple):
 
     def is_past(self) -> bool:
         """Whether it is a call that went past fdref, and not what holds one of fdref."""
-        return self.kind not in (THREAD, SIGNAL, MADE, LIMIT, VFORK, INTERRUPT)
+        return self.kind not in (THREAD, SIGNAL, MADE, VFORK, INTERRUPT)
 
     def why(self) -> str:
         """The same as what a difference may be by."""
@@ -179,8 +182,7 @@ def told_looks(every: list[Past], records: list[Line]) -> list[str]:
 
 def doubt(every: list[Past]) -> str:
     """The first thing that may have changed what fdref does not see, or nothing."""
-    kinds = (CALL, STDIO, PROGRAM, PATH, STREAM, LIMIT)
-    likely = [it for it in every if it.kind in kinds and not LOOKS.fullmatch(it.call)]
+    likely = [it for it in every if it.kind not in UNDOUBTED and not LOOKS.fullmatch(it.call)]
     return f"{likely[0].said(' of ')}, which went past fdref," if likely else ""
 
 

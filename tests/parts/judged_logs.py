@@ -5,6 +5,7 @@ import io
 from collections.abc import Iterator, Sequence
 from functools import partial
 from typing import NamedTuple
+from unittest import mock
 
 from support.counting import Case, Failure, require, same
 from support.frames import trace_of
@@ -871,7 +872,7 @@ CAUSES = [
     Causes("a name that moved on", "! 0 p0 stream fopen\tlog", "fopen of log", MOVED, HELLO),
     Causes("a name that did not", "! 0 p0 stream fopen\tlog", "", OTHER_NAME, HELLO),
     Causes("what came later", "! 4 p0 call sendfile\t0", ""),
-    Causes("a limit", "! 1 p0 limit RLIMIT_FSIZE", "the limit RLIMIT_FSIZE", by="the limit RLIMIT_FSIZE"),
+    Causes("a limit", "! 1 p0 limit RLIMIT_FSIZE", "setrlimit of RLIMIT_FSIZE"),
     Causes("setrlimit", "! 1 p0 call setrlimit of RLIMIT_FSIZE", "setrlimit of RLIMIT_FSIZE"),
     Causes("a kind that is not known", "- 1 p0 strange thing", "thing"),
     Causes("what leads a program at most", "- 1 p0 timer alarm; - 1 p0 vfork fork; - 1 p0 interrupt read", ""),
@@ -940,17 +941,8 @@ def is_torn() -> None:
 
 def is_own_fault() -> None:
     """A fault of judge.py itself is no difference."""
-    before = judge.main
-
-    def breaks(_: Sequence[str]) -> int:
-        raise IndexError
-
-    judge.main = breaks
-    try:
-        with contextlib.redirect_stderr(io.StringIO()) as told:
-            same(3, judge.main_or_fault([]))
-    finally:
-        judge.main = before
+    with mock.patch.object(judge, "main", side_effect=IndexError), contextlib.redirect_stderr(io.StringIO()) as told:
+        same(3, judge.main_or_fault([]))
     require("this is a fault of judge.py" in told.getvalue(), told.getvalue())
 
 

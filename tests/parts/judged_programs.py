@@ -3,6 +3,7 @@
 import os
 import select
 import shlex
+import shutil
 import signal
 import subprocess
 import sys
@@ -124,11 +125,24 @@ THREAD = b"judge.py: a thread waits in read, and no other one can make a call me
 SIGNAL = b"judge.py: a signal comes while read waits, and ends no call of fdref\n"
 NOT_JUDGED = "verdict: not judged: "
 ENDS_OTHERWISE = f"{NOT_JUDGED}the two runs end otherwise, or write something else"
-NUMBERS = "the number of a process, an address or the time"
+NUMBERS = "the number of a process, an address, the time or a random number"
 MODES = "modes, owners and times, which are fdref's own"
+DIFFERS_BY = f"{NOT_JUDGED}1 answer differs without a reason, perhaps by "
 OTHER_WAY = "the calls differ, not the answers: perhaps by "
 HOLDS = "a thread that waits in read and holds its process"
 BAD_ADDRESS = "a crash (SIGSEGV) is no agreement: with the shim a bad address is no EFAULT"
+
+# What is said of programs that go another way, or get another answer: lines, and what that may be by.
+OTHERWISE: list[tuple[str, tuple[str, ...], str]] = [
+    ("sends", ("system: p0 read 4 5 = x68656c6c6f",), "sendfile on descriptor 5, which went past fdref"),
+    ("unnamed", ("system: p0 read 4 5 = x68656c6c6f",), "pwritev on descriptor 3, which went past fdref"),
+    ("limits", ("system: p0 pwrite 3 999998 x68656c6c6f = 2",), ""),
+    ("makes", ("system: p0 open made",), "mkstemp of made"),
+    ("advises", ("system: p0 write 3 x61647669736564 = 7",), "posix_fadvise on descriptor 3, which went past fdref"),
+    ("times", (f"{OTHER_WAY}{NUMBERS}",), NUMBERS),
+    ("resolves", ("system: p0 write 3 x666f756e64 = 5",), "realpath of a, which went past fdref"),
+    ("environment", (f"{OTHER_WAY}the environment",), "the environment, in which judge.py sets variables of its own"),
+]
 
 PROGRAMS = [
     Judged("agrees", ("word",), 0, (WELL, "18 calls of 1 process: no answer differs", "audit: legal")),
@@ -363,6 +377,21 @@ PROGRAMS = [
         ),
     ),
     *[
+        Judged("otherwise", (word,), 3, (WELL, *lines, f"{DIFFERS_BY}{why}"))
+        for word, lines, why in OTHERWISE
+    ],
+    Judged(
+        "otherwise",
+        ("by-number",),
+        3,
+        (
+            WELL,
+            r"standard output differs in line 1: system '1\n', fdref '0\n'",
+            "may follow from open of /dev/fd/3 (past fdref, ",
+            f"{ENDS_OTHERWISE}, perhaps by open of /dev/fd/3, which went past fdref",
+        ),
+    ),
+    *[
         Judged("races", (word,), 0, (WELL, "audit: legal", "verdict: agreement: "), stderr=b"")
         for word in ("excl", "appends", "offset", "pipe", "threads")
     ],
@@ -390,8 +419,8 @@ PROGRAMS = [
         ("jumps",),
         3,
         (
-            f"{NOT_JUDGED}a call is made while another one of the same process waits: by a handler of a signal, or "
-            "after a jump out of one; the library cannot do that",
+            f"{NOT_JUDGED}a call is made while another one of the same process waits: by a handler of a signal or of "
+            "pthread_atfork, or after a jump out of one; the library cannot do that",
         ),
     ),
     Judged("signals", ("aborts",), 3, ("both ended by signal 6", "a crash (SIGABRT) is no agreement", "1 call")),
@@ -641,9 +670,12 @@ def cannot_run(bench: Bench, words: tuple[str, ...], why: str, variables: tuple[
 
 
 NO_CALLS = (
-    "made none of the calls that fdref knows, or does not load the shim, as a static program, or one that is given an "
-    "LD_PRELOAD of its own, as by env: what stands before judge.py is added to the shim"
+    "made none of the calls that fdref knows, or does not load the shim, or not in time, as a static program, one that "
+    "is built with -fsanitize=address or thread, or one that is given an LD_PRELOAD of its own, as by env: what stands "
+    "before judge.py is added to the shim"
 )
+EXPR = shutil.which("expr") or "expr"
+NO_SUM = f"{NO_CALLS}; it ended with status 2, and wrote '{EXPR}: non-integer argument' on standard error"
 
 
 def not_run(bench: Bench) -> Iterator[tuple[str, str, tuple[str, ...], tuple[str, ...]]]:
@@ -659,6 +691,7 @@ def not_run(bench: Bench) -> Iterator[tuple[str, str, tuple[str, ...], tuple[str
     nowhere = ("--program", "/no/fdref", *shim, agrees)
     yield "no program of the server", "no program at /no/fdref", nowhere, ()
     yield "no call", NO_CALLS, (*shim, "true"), ()
+    yield "no call, and a fault", NO_SUM, (*shim, EXPR, "a", "+", "1"), ("LC_ALL=C",)
     yield "no shim", NO_CALLS, (*shim, "env", "LD_PRELOAD=", agrees), ()
     left_out = "uses what fdref leaves out: symlink"
     yield "what is left out", left_out, ("--strict", *shim, bench.compiled("judge_strays"), "leaves-out"), ()

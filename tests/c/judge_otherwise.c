@@ -1,0 +1,116 @@
+/* Goes another way with fdref, or gets another answer, by what is no answer of fdref.
+
+   usage: judge_otherwise sends|unnamed|limits|makes|advises|times|resolves|by-number|environment
+
+   sends        sends its file into a pipe by sendfile, and reads the other end
+   unnamed      writes by pwritev into its file, whose name is gone, and reads it by another descriptor
+   limits       sets the limit of the size of files, and writes past it
+   makes        makes a file by a pattern of names, and opens it by its name
+   advises      writes something else where posix_fadvise fails
+   times        writes for 0.1 seconds, and asks for the offset
+   resolves     writes something else where realpath does not find its file
+   by-number    prints whether its file can be read by a path of its descriptor
+   environment  writes its environment into its file */
+
+#define _GNU_SOURCE
+
+#include <fcntl.h>
+#include <signal.h>
+#include <stdio.h>
+#include <stdlib.h>
+#include <string.h>
+#include <sys/resource.h>
+#include <sys/sendfile.h>
+#include <sys/uio.h>
+#include <time.h>
+#include <unistd.h>
+
+static char text[] = "hello";
+/* The limit holds for the log of the library, too. */
+enum { SIZE = sizeof text - 1, MOST = 1000000 };
+
+static int says(int fd, const char *what) { return write(fd, what, strlen(what)) < 0; }
+
+static int sends(int fd)
+{
+    char bytes[SIZE];
+    int ends[2];
+    if (says(fd, text) || lseek(fd, 0, SEEK_SET) != 0 || pipe(ends) != 0)
+        return 1;
+    sendfile(ends[1], fd, NULL, SIZE);
+    return close(ends[1]) != 0 || read(ends[0], bytes, SIZE) < 0;
+}
+
+static int unnamed(int fd)
+{
+    char bytes[SIZE];
+    struct iovec part = {text, SIZE};
+    int other = unlink("a") == 0 ? dup(fd) : -1;
+    pwritev(fd, &part, 1, 0);
+    return read(other, bytes, SIZE) < 0;
+}
+
+static int limits(int fd)
+{
+    struct rlimit limit = {MOST, MOST};
+    if (signal(SIGXFSZ, SIG_IGN) == SIG_ERR || setrlimit(RLIMIT_FSIZE, &limit) != 0)
+        return 1;
+    return pwrite(fd, text, SIZE, MOST - 2) < 0;
+}
+
+static int makes(void)
+{
+    char name[] = "madeXXXXXX";
+    int made = mkstemp(name), found = open(name, O_RDONLY);
+    return made < 0 || (found < 0 && unlink("a") != 0);
+}
+
+static double now(void)
+{
+    struct timespec time;
+    return clock_gettime(CLOCK_MONOTONIC, &time) == 0 ? (double)time.tv_sec + (double)time.tv_nsec / 1e9 : 0;
+}
+
+static int times(int fd)
+{
+    for (double end = now() + 0.1; now() < end;)
+        if (says(fd, "a"))
+            return 1;
+    return lseek(fd, 0, SEEK_CUR) < 0;
+}
+
+static int resolves(int fd)
+{
+    char *path = realpath("a", NULL);
+    int has_failed = says(fd, path ? "found" : "not found");
+    free(path);
+    return has_failed;
+}
+
+static int by_number(int fd)
+{
+    char path[30], byte;
+    return says(fd, text) || snprintf(path, sizeof path, "/dev/fd/%d", fd) < 0
+        || printf("%d\n", (int)read(open(path, O_RDONLY), &byte, 1)) < 0;
+}
+
+static int environment(int fd)
+{
+    for (char **each = environ; *each; each++)
+        if (says(fd, *each))
+            return 1;
+    return 0;
+}
+
+int main(int count, char **words)
+{
+    const char *what = count > 1 ? words[1] : "";
+    int fd = open("a", O_RDWR | O_CREAT, 0600);
+    if (fd < 0 || (strcmp(what, "sends") == 0 && sends(fd)) || (strcmp(what, "unnamed") == 0 && unnamed(fd)))
+        return 1;
+    if (strcmp(what, "advises") == 0)
+        return says(fd, posix_fadvise(fd, 0, 0, POSIX_FADV_SEQUENTIAL) == 0 ? "advised" : "not");
+    return (strcmp(what, "limits") == 0 && limits(fd)) || (strcmp(what, "makes") == 0 && makes())
+        || (strcmp(what, "times") == 0 && times(fd)) || (strcmp(what, "resolves") == 0 && resolves(fd))
+        || (strcmp(what, "by-number") == 0 && by_number(fd)) || (strcmp(what, "environment") == 0 && environment(fd));
+}
