@@ -45,7 +45,7 @@ static int unnamed(int fd)
 {
     char bytes[SIZE];
     struct iovec part = {text, SIZE};
-    int other = unlink("a") == 0 ? dup(fd) : -1;
+    int other = unlink("a") == 0 ? fcntl(fd, F_DUPFD, 0) : -1;
     pwritev(fd, &part, 1, 0);
     return read(other, bytes, SIZE) < 0;
 }
