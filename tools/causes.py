@@ -30,7 +30,7 @@ from support.plain_model import Limits
 from support.runs import Line
 
 import past
-from partings import Finding, Parting, act_at, names_behind
+from partings import Finding, Parting, names_behind
 from past import Past
 from reach import Reach, behind
 
@@ -123,19 +123,25 @@ def tells_number(parting: Parting) -> bool:
     outcomes = [line.outcome for line in both]
     if any(outcome in ("error EBADF", "error EMFILE") for outcome in outcomes):
         return True
-    return word_of(both[0]) in CHANGE_DESCRIPTORS and "".join(outcomes).replace(" ", "").isdigit()
+    is_told = len(both) == 2 and word_of(both[0]) in CHANGE_DESCRIPTORS
+    return is_told and "".join(outcomes).replace(" ", "").isdigit()
 
 
 # ---- what differences have to do with
 
 
-def tells_variables(line: Line) -> bool:
-    """Whether a call writes what is in the environment by this tool."""
+def act_in(line: Line | None) -> plain_model.Act | None:
+    """The call of a line, where it can be read."""
     try:
-        act = act_of(line.act)
+        return act_of(line.act) if line else None
     except plain_model.NotAnAct:
-        return False
-    return any(isinstance(field, bytes) and VARIABLE in field for field in act.fields)
+        return None
+
+
+def tells_variables(line: Line | None) -> bool:
+    """Whether a call writes what is in the environment by this tool."""
+    act = act_in(line)
+    return act is not None and any(isinstance(field, bytes) and VARIABLE in field for field in act.fields)
 
 
 def answered(parting: Parting, records: Sequence[Line]) -> int:
@@ -208,14 +214,15 @@ class Causes:
 
     def meet(self, parting: Parting, world: plain_model.World, reach: Reach) -> None:
         """What a call has to do with, as it parts."""
-        act = act_at(parting)
+        act = act_in(parting.fdref) if parting.is_same_call() or self.is_left(parting) else None
         if act:
             self.things[id(parting)] = frozenset(reach.of(world, act))
             if reach.reaches(world, act):
                 self.reached.add(id(parting))
 
     def is_left(self, parting: Parting) -> bool:
-        """Whether the system was killed while it may have been in the call that fdref answers: it made no other one."""
+        """Whether the system was killed while it may have been in the call that fdref answers: it made no other one.
+        That is as the same call, which it did not answer."""
         return self.is_killed and not parting.system
 
     def of(self, finding: Finding) -> Past | None:
@@ -223,7 +230,9 @@ class Causes:
         parting = finding.parting
         acts = [line.act.split(" ") for line in (parting.system, parting.fdref) if line]
         descriptor = acts[0][2] if acts[0][2:] and acts[0][2].isdigit() else ""
-        likely = self.of_call(finding) if parting.is_same_call() else self.of_way(parting)
+        is_same = parting.is_same_call()
+        likely = self.of_call(finding) if is_same or self.is_left(parting) else []
+        likely += self.of_way(parting) if not is_same else []
         return past.last_of(likely, finding.names, descriptor, self.things.get(id(parting), frozenset()))
 
     def of_call(self, finding: Finding) -> list[Past]:
@@ -248,12 +257,7 @@ class Causes:
     def of_way(self, parting: Parting) -> list[Past]:
         """Those by which a program may have gone another way."""
         before = [it for it in self.every if it.place < parting.place or it.kind == past.THREAD or not parting.fdref]
-        is_left = self.is_left(parting)
-        return [
-            it
-            for it in before
-            if self.tells_otherwise(it) or it.kind in LEADS or (is_left and self.extents[id(it)] != NOTHING)
-        ]
+        return [it for it in before if self.tells_otherwise(it) or it.kind in LEADS]
 
     def of_output(self, descriptor: str) -> Past | None:
         """What it may follow from that something else was written to a descriptor: of what has most to do with that
@@ -282,7 +286,7 @@ class Causes:
             return MODES
         if parting.is_same_call() or self.is_left(parting):
             return ""
-        if any(line and tells_variables(line) for line in (parting.system, parting.fdref)):
+        if tells_variables(parting.system) or tells_variables(parting.fdref):
             return VARIABLES
         before = [it for it in self.every if it.place < parting.place]
         if is_timed or any(it.kind == past.TIMER for it in before):

@@ -915,6 +915,15 @@ def is_blamed(causes: Causes) -> None:
     same((by_it, 3) if causes.told else (f"verdict: a difference: {differs}", 1), ending(verdict))
 
 
+def is_left(noted: str, status: int) -> None:
+    """A call that fdref answers, and in which the system may have been when it was killed, is a difference unless what
+    is noted may be why."""
+    trace = lines_of("0 p0 join = 0; 1 p0 open a rw,creat = 0; 2 p0 read 0 9 = x")
+    system = as_bytes(["- p0 open a rw,creat = 0"])
+    both = judge.Both(KILLED, WELL, system, as_bytes(logged(trace)), trace_of(trace), as_bytes([noted]))
+    same(status, judge.Verdict(both, "legal 3 rest 0").status())
+
+
 def is_unlike(log: str) -> None:
     """A log of fdref that is not that of the trace is compared with nothing."""
     trace = lines_of("0 p0 join = 0; 1 p0 pipe = 0 1; 2 p0 read 0 1 = parked 0")
@@ -963,6 +972,14 @@ def cases() -> Iterator[Case]:
         yield logs.name, partial(are_found, logs)
     for log in ("3 p0 pipe = 2 3", "1 p0 pipe = 1 2", "1 p0 dup 0 = 0 1", "2 p0 read 0 1 = x"):
         yield f"a log with {log}", partial(is_unlike, log)
+    for noted, status in (
+        ("! 1 p0 path open\t/etc/passwd", 1),
+        ("- 1 p0 stream fopen\t/x", 1),
+        ("! 1 p0 call poll\t0", 3),
+        ("! 1 p0 call mmap\t0", 3),
+        ("! 1 p0 path chdir\t/", 3),
+    ):
+        yield f"a call that the system did not answer, after {noted}", partial(is_left, noted, status)
     yield "a circle of forks", is_circular
     yield "a log that is torn", is_torn
     yield "a fault of judge.py", is_own_fault
