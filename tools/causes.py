@@ -6,7 +6,8 @@ then, else by what no answer tells, as the time. That is no difference, and what
 is the same, all that is told before it, of any process, may be why, but for what is known to be harmless:
 
 - What changes nothing looks at a file, lists a folder, or asks for readiness (LOOKS and LISTS of past.py, and ASKS): no
-  later answer tells it. A vfork, a timer and a signal in a call lead a program another way at most.
+  later answer tells it. A timer and a signal in a call lead a program another way at most, and a vfork is a fork in
+  both runs.
 - What changes one file, by its descriptor (OF_A_DESCRIPTOR), is harmless to a call that has another file, pipe and
   description behind it.
 - What changes one name, by its path (OF_A_PATH), is harmless to other names, and to what is behind these. It may not
@@ -54,7 +55,7 @@ OF_A_PATH = re.compile(
 # Kinds that lead a program another way at most.
 ASIDE = (past.VFORK, past.INTERRUPT, past.CUT, past.TIMER)
 # Kinds by which a program may go another way, beside what tells it something else.
-LEADS = (past.SIGNAL, past.LIMIT, past.VFORK, past.INTERRUPT)
+LEADS = (past.SIGNAL, past.LIMIT, past.INTERRUPT)
 # What makes a name that is another one in each run.
 MAKES_A_NAME = re.compile(r"mko?stemps?(?:64)?|mkdtemp|mktemp|tempnam")
 # Paths by which a descriptor, or a folder of a process, has another name.

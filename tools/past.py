@@ -66,7 +66,6 @@ class Past(NamedTuple):
             SIGNAL: f"signal {self.call}, by which a child ended that fdref may have kept for longer",
             MADE: f"descriptor {self.call}, which is open, and no call that fdref knows made it",
             LIMIT: f"setrlimit of {self.call}",
-            VFORK: "a vfork, whose child shares no memory here",
             INTERRUPT: f"a signal in {self.call}, which ends no call of fdref",
         }
         if self.kind == CALL and self.name.isdigit():
@@ -75,7 +74,7 @@ class Past(NamedTuple):
 
     def is_past(self) -> bool:
         """Whether it is a call that went past fdref, and not what holds one of fdref."""
-        return self.kind not in (THREAD, SIGNAL, MADE, VFORK, INTERRUPT)
+        return self.kind not in (THREAD, SIGNAL, MADE, INTERRUPT)
 
     def why(self) -> str:
         """The same as what a difference may be by."""
