@@ -134,15 +134,15 @@ LEAVES_OUT = "uses what fdref leaves out: "
 # What the shim says where a call waits that its process is not in any more, and what may be why.
 WITHIN = b"a call comes while another one of the process waits, as from a handler of a signal"
 TOLD_WITHIN = (
-    "a call is made while another one of the same process waits: by a handler of a signal or of pthread_atfork, or "
-    "after a jump out of one; the library cannot do that"
+    "a call is made while another one of the same process waits: by a handler of a signal, or after a jump out of one; "
+    "the library cannot do that"
 )
 NO_CALLS = (
     "made none of the calls that fdref knows, or does not load the shim, or not in time, as a static program, one that "
     "is built with -fsanitize=address or thread, or one that is given an LD_PRELOAD of its own, as by env: what stands "
     "before judge.py is added to the shim"
 )
-# What is said where the connection is lost, and what may be why.
+# What the shim says where the connection is lost, and what may be why.
 IS_LOST = b"the connection is lost in "
 TOLD_LOST = "perhaps by a clone, or by a system call that closes it, which are not seen"
 ALL_TAKEN = b"all sessions are taken"
@@ -389,7 +389,7 @@ class Job:
         if any(ALL_TAKEN in text for text in said) and processes_in(trace) >= self.sessions:
             raise CannotJudge(f"has more than {self.sessions} processes in all{MOST_PROCESSES}")
         if fdref.status == NOT_ASKED and said:
-            lost = f"the server gave no answer: {said[-1].decode('utf-8', 'replace')}"
+            lost = f"the library ended the program: {said[-1].decode('utf-8', 'replace')}"
             why = [TOLD_LOST] if said[-1].startswith(IS_LOST) else []
             raise NotJudged("; ".join([lost, *why, *past.told_past(past.past_of(self.past("fdref")))]))
         system, system_log = self.ran("system")

@@ -419,8 +419,8 @@ PROGRAMS = [
         ("jumps",),
         3,
         (
-            f"{NOT_JUDGED}a call is made while another one of the same process waits: by a handler of a signal or of "
-            "pthread_atfork, or after a jump out of one; the library cannot do that",
+            f"{NOT_JUDGED}a call is made while another one of the same process waits: by a handler of a signal, or "
+            "after a jump out of one; the library cannot do that",
         ),
     ),
     Judged("signals", ("aborts",), 3, ("both ended by signal 6", "a crash (SIGABRT) is no agreement", "1 call")),
