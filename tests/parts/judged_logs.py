@@ -851,6 +851,7 @@ TWO_PIPES = "p0 pipe = 0 1; p0 pipe = 2 3; p0 close 3 = ok; p0 read 2 9 = {}"
 NO_NAME = "p0 open a rw,creat = 0; p0 unlink a = ok; p0 dup 0 = 1; p0 read 1 9 = {}"
 MOVED = "p0 open log rw,creat = 0; p0 rename log b = ok; p0 open b r = 1; p0 read 1 9 = {}"
 OTHER_NAME = "p0 open a rw,creat = 0; p0 rename a b = ok; p0 open b r = 1; p0 read 1 9 = {}"
+TWO_MADE = "! 0 p0 made 3; ! 0 p0 made 4"
 MADE = "descriptor 3, which is open, and no call that fdref knows made it"
 
 CAUSES = [
@@ -886,7 +887,7 @@ CAUSES = [
     Causes("a number, and a stream", "- 0 p0 stream fopen\t/x", "fopen of /x", A_NUMBER, TWO_NUMBERS),
     Causes("no number free, and a stream", "- 0 p0 stream fopen\t/x", "fopen of /x", NEXT, ("error EMFILE", "1")),
     Causes("a number, and a file that both open", "! 0 p0 path open\t/x", "", A_NUMBER, TWO_NUMBERS),
-    Causes("a number that is made otherwise", "", MADE, A_NUMBER, TWO_NUMBERS, MADE, "! 0 p0 made 3"),
+    Causes("a number that is made otherwise", "", MADE, A_NUMBER, TWO_NUMBERS, MADE, TWO_MADE),
     Causes("a number that another process has made", "", "", A_NUMBER, TWO_NUMBERS, made="! 0 p7 made 3"),
     Causes("no number, and one that is made otherwise", "", "", made="! 0 p0 made 3"),
 ]
