@@ -247,8 +247,8 @@ class Causes:
         found += [it for it in before if self.extents[id(it)] == ALL and self.can_be(it, parting)]
         if tells_number(parting):
             made = [it for way, it in self.made if parting.way[: len(way)] == way]
-            # the first is the lowest
-            found += made[:1] or [it for it in before if takes_number(it)]
+            # the first is the lowest, where no stream may have made it
+            found += [it for it in before if takes_number(it)] or made[:1]
         return found
 
     @staticmethod

@@ -324,9 +324,10 @@ class Looker:
 
 
 def tell_that_others_go_on(where: str, status: int) -> None:
-    """Tells that a program has ended, and that others of its processes have not."""
-    told = f"{where} the program itself {how_it_ended(status)}, and others of its processes go on"
-    print(f"judge.py: {told}", file=sys.stderr, flush=True)
+    """Tells that a program has ended, and that others of its processes have not, unless the shim tells why it did."""
+    if status != NOT_ASKED:
+        told = f"{where} the program itself {how_it_ended(status)}, and others of its processes go on"
+        print(f"judge.py: {told}", file=sys.stderr, flush=True)
 
 
 class Job:

@@ -888,6 +888,7 @@ CAUSES = [
     Causes("no number free, and a stream", "- 0 p0 stream fopen\t/x", "fopen of /x", NEXT, ("error EMFILE", "1")),
     Causes("a number, and a file that both open", "! 0 p0 path open\t/x", "", A_NUMBER, TWO_NUMBERS),
     Causes("a number that is made otherwise", "", MADE, A_NUMBER, TWO_NUMBERS, MADE, TWO_MADE),
+    Causes("a number of a stream", "- 0 p0 stream fopen\t/x", "fopen of /x", A_NUMBER, TWO_NUMBERS, made=TWO_MADE),
     Causes("a number that another process has made", "", "", A_NUMBER, TWO_NUMBERS, made="! 0 p7 made 3"),
     Causes("no number, and one that is made otherwise", "", "", made="! 0 p0 made 3"),
 ]
