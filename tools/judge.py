@@ -357,8 +357,8 @@ class Job:
                 ended = run_tree(self.words, folder, env, stdin, self.seconds, limit_descriptors, is_over, goes_on)
         except OSError as fault:
             raise CannotJudge(f"{self.words[0]}: {fault.strerror}") from None
-        for path, kept in ((folder, f"{RUN}-{name}"), (log, f"{name}.log"), (noted, PAST[name])):
-            os.rename(path, os.path.join(self.folder, kept))
+        for path, kept in ((Path(folder), f"{RUN}-{name}"), (log, f"{name}.log"), (noted, PAST[name])):
+            path.rename(Path(self.folder, kept))
         return ended, Path(self.folder, f"{name}.log").read_bytes()
 
     def noted(self) -> tuple[Path, Path]:

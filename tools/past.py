@@ -33,11 +33,10 @@ LOOKS = re.compile(
     r"|readlink\w*|canonicalize_file_name|[lf]?getxattr|f?l?listxattr|ftok|name_to_handle_at|isfdtype"
     r"|posix_fadvise(?:64)?|readahead|sync_file_range|syncfs|fsync|fdatasync)"
 )
-# Calls that list a folder, in which the files of fdref are missing; by which names lead to another folder; and which
-# take a descriptor that natively is one of a low number.
+# Calls that list a folder, in which the files of fdref are missing; that set modes and times, or ask for rights; and that
+# take a descriptor which natively is one of a low number.
 LISTS = re.compile(r"opendir|scandir\w*|glob(?:64)?|n?ftw(?:64)?|fts\w*_open|getdents64|getdirentries\w*")
 SETS = re.compile(r"[lf]?chmod\w*|[lf]?chown\w*|umask|(?:f|l)?utime\w*|e?u?i?d?access")
-MOVES = re.compile(r"f?chdir|chroot")
 TAKES = re.compile(r"opendir|mko?stemps?(?:64)?|fts\w*_open|syscall of pipe2?")
 # Calls with two names, which fail where one of them is fdref's and the other one is not.
 BETWEEN = re.compile(r"link(?:at)?|rename(?:at2?)?")
