@@ -39,7 +39,8 @@ it can have reached: they are counted, and the first is told. Where with fdref a
 seconds, one of them in a write that would go into a pipe of 65,536 bytes, in a call that a signal would end,
 or in one that keeps other threads from theirs, or after a child that a signal ended and that fdref kept for
 longer than its parent knew of, they are killed, which is told at once but of the write; a parent may wait for
-a child meanwhile. At last fdref audits the trace of its server.
+a child meanwhile. That the program itself has ended and others of its processes go on is told after a second.
+At last fdref audits the trace of its server.
 
 Where processes or threads act at once, their answers depend on who is first. So where one differs an order of
 the system's own calls is searched for, in which the model of fdref gives all its answers: each process or
@@ -67,7 +68,8 @@ The last line says what the exit status means:
    as by the time, a timer, the number of a process, an address or a mode; or the two end otherwise or write
    something else though no answer differs without a reason. The last line names it (`perhaps by ..`). Or the
    program could not be run or compared, ended with neither, or crashed with both, as by a bad address, or a
-   child did so with fdref for which it waited; or a call was made while another one of its process waits
+   child did so with fdref for which it waited; or a call was made while another one of its process waits; or
+   judge.py itself has a fault
 """
 
 import argparse
