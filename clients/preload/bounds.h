@@ -18,10 +18,11 @@ static long limit_of(int name)
 
 long fpathconf(int fd, int name)
 {
+    NEXT_OF(fpathconf);
     enum way way = way_of(fd);
     if (way != PASS && slot_of(fd).held == OURS && limit_of(name) >= 0)
         return limit_of(name);
-    return way == ASK ? refuse(fd, "fpathconf of another limit") : system_fpathconf(fd, name);
+    return way == ASK ? refuse(fd, "fpathconf of another limit") : next(fd, name);
 }
 
 static long limit_of_ours(const char *path, int name)
@@ -39,27 +40,35 @@ static int is_dot(const char *path) { return path && (strcmp(path, ".") == 0 || 
 
 long pathconf(const char *path, int name)
 {
+    NEXT_OF(pathconf);
     const char *rest = path;
     enum way way;
     prepare();
-    if (how != OFF && is_dot(path) && limit_of(name) >= 0)
+    if (!is_off() && is_dot(path) && limit_of(name) >= 0)
         return limit_of(name);
     way = way_of_name("pathconf", &rest);
     if (way == ASK)
         return limit_of_ours(rest, name);
-    return way == NOTE && limit_of(name) >= 0 && system_pathconf(path, name) >= 0 ? limit_of(name)
-                                                                                  : system_pathconf(path, name);
+    return way == NOTE && limit_of(name) >= 0 && next(path, name) >= 0 ? limit_of(name) : next(path, name);
 }
 
 /* ---- limits of processes */
 
-long sysconf(int name)
-{
-    prepare();
-    return how == ASKED && name == _SC_OPEN_MAX ? NUMBERS : system_sysconf(name);
-}
+#define TELLS_NUMBERS(function) \
+    long function(int name) \
+    { \
+        NEXT_OF(function); \
+        prepare(); \
+        return how == ASKED && name == _SC_OPEN_MAX ? NUMBERS : next(name); \
+    }
+TELLS_NUMBERS(sysconf)
 
-int getdtablesize(void) { return (int)sysconf(_SC_OPEN_MAX); }
+int getdtablesize(void)
+{
+    NEXT_OF(getdtablesize);
+    prepare();
+    return how == ASKED ? NUMBERS : next();
+}
 
 #ifdef __GLIBC__
 typedef __rlimit_resource_t resource_kind;
@@ -74,12 +83,17 @@ static int keep_numbers(int is_same)
 {
     if (is_same)
         return 0;
-    leave_out("call", "setrlimit of RLIMIT_NOFILE", NULL);
+    goes_past('!', "limit", "RLIMIT_NOFILE", NULL);
+    end_strictly("setrlimit of RLIMIT_NOFILE");
     return (int)fails(ENOSYS);
 }
 
 /* That of the size of files holds for real ones alone. */
-static void limit_size(void) { leave_out("call", "setrlimit of RLIMIT_FSIZE", NULL); }
+static void limit_size(void)
+{
+    goes_past('!', "limit", "RLIMIT_FSIZE", NULL);
+    end_strictly("setrlimit of RLIMIT_FSIZE");
+}
 
 int getrlimit(resource_kind resource, struct rlimit *to)
 {
@@ -87,7 +101,7 @@ int getrlimit(resource_kind resource, struct rlimit *to)
     prepare();
     done = system_getrlimit((int)resource, to);
     if (done == 0 && is_limit_of_numbers(resource))
-        to->rlim_cur = to->rlim_max = NUMBERS;
+        to->rlim_cur = NUMBERS;
     return done;
 }
 

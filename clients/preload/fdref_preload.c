@@ -9,9 +9,11 @@
      FDREF_LOG=FILE     Each call that is answered is appended to FILE as a line of fdref: `7 p0 open a rw,creat = 3`.
                         Of a call that waited the place is that of the record that ended it. A join, an attach and an
                         exit have no line. Without FDREF_SOCKET the run is *native*: the functions answer that come
-                        after this library, by the names that the program calls, so that those of a C library of its
-                        own do. The lines are the same, with `-` in place of the place, and of other threads than the
-                        first one to make a call of its process `-1`, `-2` and so on.
+                        after this library, by the very names that the program calls, so that those of a C library of
+                        its own do. But vfork is fork, closefrom is close_range, an exec without an environment is one
+                        with it, and dprintf is given "%s" and the text, or is vdprintf where that has zeros. The lines
+                        are the same, with `-` in place of the place, and of other threads than the first one to make a
+                        call of its process `-1`, `-2` and so on.
      FDREF_STARTS=1     In a native run `@` stands after that, and how many bytes the log had before the call began.
      FDREF_STRICT=1     What fdref leaves out is told on standard error, and the program ends with status 125.
      FDREF_PAST=FILE    Each call that is left to the system or fails with ENOSYS, as far as it is seen, is appended to
@@ -21,12 +23,15 @@
                         FDREF_STRICT would not tell it `-` stands for `!`: `- 6 p0 stream fopen<tab>/tmp/x`, and
                         `- 6 p0 stdio 1`, as a file of fdref comes to be at descriptor 0, 1 or 2. `- 6 p0 signal 11`
                         is a child that a signal ended, as wait, waitid or waitpid told, `- 6 p0 vfork fork` a vfork,
-                        and `- 6 p0 interrupt read` a signal in a call that waits, whose handler restarts none. In a
-                        native run only `- 0 p0 cut exit` is there: a process ended while others of its threads may have
-                        been in a call.
+                        and `- 6 p0 interrupt read` a signal in a call that waits, whose handler restarts none. So are
+                        `- 6 p0 timer alarm` and `! 6 p0 limit RLIMIT_FSIZE`, as a program starts a timer or sets that
+                        limit or RLIMIT_NOFILE. In a native run two kinds are there: after `- 0 p0 cut exit` a process
+                        ended while others of its threads may have been in a call, and by `! 0 p0 made 3` a descriptor
+                        is higher since 3 is open, which no call made that fdref knows.
 
-   Without the first two nothing is changed. Where there is no answer (no server, no place at it for one more process, a
-   run that is full, a lost connection) that is told on standard error, and the program ends with status 124.
+   Without the first two nothing is changed, nor before a program has its environment, as in .preinit_array. Where there
+   is no answer (no server, no place at it for one more process, a run that is full, a lost connection), or the program's
+   limit of the size of files cuts the log, it is told on standard error, and the program ends with status 124.
 
    Names. fdref has one folder. A name without `/`, or with only `./` before it, is asked of fdref, whatever the working
    directory is. Every other path, `.` and `..` go to the kernel, and a link or a rename between the two is EXDEV. So
@@ -61,8 +66,8 @@
      - An exit, and _exit, is recorded before the program has ended. That of a program that a signal ends, abort too,
        comes when the server sees the connection closed, so perhaps after its parent's wait.
 
-   What is ignored: the mode of a new file, O_NOCTTY, O_NOFOLLOW, O_SYNC and its kin, fsync, and in F_SETFL each flag
-   that Linux ignores there. FD_CLOEXEC is only kept.
+   What is ignored: the mode of a new file, O_NOCTTY, O_NOFOLLOW, O_SYNC and its kin, fsync, which is EINVAL of a pipe,
+   and in F_SETFL each flag that Linux ignores there. FD_CLOEXEC is only kept.
 
    What is left out, so that FDREF_STRICT tells it. tests/c/descriptor_functions.txt has each function of glibc that
    takes a descriptor or a path, and what is done with it.
@@ -78,15 +83,18 @@
        with flags are ENOSYS.
      - pipe2 with O_DIRECT, which is a pipe of the kernel; chdir; a limit of the size of files.
      - syscall by the numbers of calls that fdref has, and of their kin: with a descriptor or a file of fdref it is
-       ENOSYS, and else the kernel's.
-     - A thread that waits in a call for 0.1 seconds while another one makes a call: one is made at a time.
+       ENOSYS, and else the kernel's. But that of close_range is close_range.
+     - clone, whose child ends with status 124 where it makes a call of fdref.
+     - A thread that waits in a call for 0.1 seconds while another one makes a call: one is made at a time. Nor is it
+       cancelled then.
 
    What cannot be seen, and is not told: system calls that are made past the C library, and what it makes inside. So
-   stdio does not reach standard output while that is a file of fdref (FDREF_PAST tells that it is), and clone is no
-   fork. A bad address is no EFAULT.
+   stdio does not reach standard output while that is a file of fdref (FDREF_PAST tells that it is). A bad address is no
+   EFAULT.
 
-   Signals: a handler may make no call of fdref while one waits: that is status 124. Signals do not end a call that
-   waits in fdref.
+   Signals come between calls, and to one that waits 0.1 seconds after it began to, or after a part of it. They do not
+   end it, and a handler may make no call of fdref meanwhile. That is status 124, and so is a call of a handler of
+   pthread_atfork.
 
    The kernel's hard limit of open files has to be above 64. */
 
@@ -166,12 +174,13 @@ int __cxa_atexit(void (*function)(void *), void *argument, void *library);
 #include "shared.h"
 #include "table.h"
 
-/* ---- open */
+/* ---- descriptors that are made */
 
-enum {
-    ASKED_FLAGS = O_ACCMODE | O_CREAT | O_EXCL | O_TRUNC | O_APPEND | O_NONBLOCK,
-    IGNORED_FLAGS = O_CLOEXEC | O_NOCTTY | O_LARGEFILE | O_NOFOLLOW | O_SYNC | O_DSYNC | O_RSYNC
-};
+static struct slot slot_of(int fd)
+{
+    struct slot slot = {FREE, 0, 0, 0};
+    return fd >= 0 && fd < NUMBERS ? slots[fd] : slot;
+}
 
 static int64_t taken(int64_t fd, struct slot slot, int is_cloexec)
 {
@@ -185,29 +194,88 @@ static int numbered(int fd, int is_cloexec)
 {
     if (fd >= 0 && how == ASKED)
         return (int)ALONE(adopt(fd, is_cloexec));
+    tell_made(0, fd);
     take_real(fd);
     return fd;
 }
 
-static int open_in(int folder, const char *name, int flags, mode_t mode)
+/* ---- how a call goes
+
+   First it is found whether fdref answers. If not, the function of the same name that comes after this library is
+   called, and in a native run it is logged what that gave. */
+
+/* What a call is for fdref, its way, and what it came to where that is known; and of one that makes a descriptor, what
+   that leads to. */
+struct going {
+    struct fdref_act act;
+    enum way way;
+    int64_t done;
+    struct slot slot;
+    int is_cloexec;
+};
+
+static int64_t gone(const struct going *it, int64_t given) { return it->way == NOTE ? noted(it->act, given) : given; }
+
+/* The same of a call that makes the lowest free descriptor. */
+static int64_t gone_to_lowest(const struct going *it, int64_t given)
 {
-    const char *rest = name;
-    enum way way = way_in("open", folder, &rest);
-    int is_cloexec = (flags & O_CLOEXEC) != 0;
-    struct slot slot = {OURS, 0, 0, 0};
-    struct fdref_act act = fdref_act_open(rest, flags & ASKED_FLAGS);
-    if (way != PASS && (flags & ~(ASKED_FLAGS | IGNORED_FLAGS)) != 0) {
-        leave_out("path", "open with other flags", rest);
-        if (is_file(rest))
-            return (int)fails((flags & O_DIRECTORY) != 0 ? ENOTDIR : ENOSYS);
-        way = PASS;
+    if (is_behind)
+        return given;
+    if (it->way != NOTE)
+        return numbered((int)given, it->is_cloexec);
+    tell_made(0, given);
+    return taken(noted(it->act, given), it->slot, it->is_cloexec);
+}
+
+/* A call that waits for nobody. */
+#define GOES(type, name, parameters, words, is_known, after) \
+    type name parameters \
+    { \
+        NEXT_OF(name); \
+        struct going going; \
+        if (is_known) \
+            return (type)going.done; \
+        if (going.way == NOTE) \
+            return (type)after(&going, BEHIND(next words)); \
+        return (type)after(&going, next words); \
     }
-    if (way == PASS)
-        return numbered(behind_open(folder, name, flags, mode), is_cloexec);
-    slot.inode = way == ASK ? inode_of_name(rest) : 0;
-    if (way == ASK)
-        return (int)ALONE(taken(ask(act), slot, is_cloexec));
-    return (int)taken(noted(act, behind_open(folder, name, flags, mode)), slot, is_cloexec);
+
+/* What follows in a function that may wait, where `given` is what the next one gives. */
+#define NEXT_WITHIN(given, call) \
+    do { \
+        const void *before = go_in(&next); \
+        given = call; \
+        within = before; \
+    } while (0)
+
+/* ---- open */
+
+enum {
+    ASKED_FLAGS = O_ACCMODE | O_CREAT | O_EXCL | O_TRUNC | O_APPEND | O_NONBLOCK,
+    IGNORED_FLAGS = O_CLOEXEC | O_NOCTTY | O_LARGEFILE | O_NOFOLLOW | O_SYNC | O_DSYNC | O_RSYNC
+};
+
+static int is_opened(struct going *it, int folder, const char *name, int flags)
+{
+    static const struct slot slot = {OURS, 0, 0, 0};
+    it->way = way_in("open", folder, &name);
+    it->act = fdref_act_open(name, flags & ASKED_FLAGS);
+    it->slot = slot;
+    it->is_cloexec = (flags & O_CLOEXEC) != 0;
+    if (it->way != PASS && (flags & ~(ASKED_FLAGS | IGNORED_FLAGS)) != 0) {
+        leave_out("path", "open with other flags", name);
+        it->way = PASS;
+        if (!is_file(name))
+            return 0;
+        it->done = fails((flags & O_DIRECTORY) != 0 ? ENOTDIR : ENOSYS);
+        return 1;
+    }
+    if (it->way != ASK)
+        return 0;
+    pthread_testcancel();
+    it->slot.inode = inode_of_name(name);
+    it->done = ALONE(taken(ask(it->act), it->slot, it->is_cloexec));
+    return 1;
 }
 
 /* The mode that follows the flags, where there is one. */
@@ -218,25 +286,29 @@ static int open_in(int folder, const char *name, int flags, mode_t mode)
         mode = (mode_t)va_arg(values, unsigned); \
         va_end(values); \
     }
+#define OPENS_SO(name, parameters, words, folder, path, flags, mode_of) \
+    int name parameters \
+    { \
+        NEXT_OF(name); \
+        struct going going; \
+        int given; \
+        mode_of \
+        if (IS_INNER) \
+            return next words; \
+        if (is_opened(&going, folder, path, flags)) \
+            return (int)going.done; \
+        NEXT_WITHIN(given, next words); \
+        return (int)gone_to_lowest(&going, given); \
+    }
 #define OPENS(name, also) \
-    int name(const char *path, int flags, ...) \
-    { \
-        mode_t mode = 0; \
-        MODE_AFTER(flags, mode) \
-        return open_in(AT_FDCWD, path, flags | (also), mode); \
-    }
+    OPENS_SO(name, (const char *path, int flags, ...), (path, flags, mode), AT_FDCWD, path, flags | (also), \
+             mode_t mode = 0; MODE_AFTER(flags, mode))
 #define OPENS_IN(name, also) \
-    int name(int folder, const char *path, int flags, ...) \
-    { \
-        mode_t mode = 0; \
-        MODE_AFTER(flags, mode) \
-        return open_in(folder, path, flags | (also), mode); \
-    }
+    OPENS_SO(name, (int folder, const char *path, int flags, ...), (folder, path, flags, mode), folder, path, \
+             flags | (also), mode_t mode = 0; MODE_AFTER(flags, mode))
 #define CREATES(name, also) \
-    int name(const char *path, mode_t mode) \
-    { \
-        return open_in(AT_FDCWD, path, O_WRONLY | O_CREAT | O_TRUNC | (also), mode); \
-    }
+    OPENS_SO(name, (const char *path, mode_t mode), (path, mode), AT_FDCWD, path, \
+             O_WRONLY | O_CREAT | O_TRUNC | (also), )
 
 OPENS(open, 0)
 OPENS_IN(openat, 0)
@@ -260,18 +332,41 @@ static int64_t close_real(int fd)
     return 0;
 }
 
-int close(int fd)
+static int is_closed(struct going *it, int fd)
 {
-    enum way way = way_of(fd);
-    if (is_own(fd))
-        return (int)fails(EBADF);
-    if (way == ASK)
-        return (int)ALONE(close_ours(fd));
-    if (way == PASS && how == ASKED && fd < NUMBERS)
-        return (int)ALONE(close_real(fd));
+    it->act = fdref_act_close(fd);
+    it->way = way_of(fd);
+    if (is_own(fd)) {
+        it->done = fails(EBADF);
+        return 1;
+    }
+    if (it->way == ASK || (it->way == PASS && how == ASKED && fd < NUMBERS)) {
+        pthread_testcancel();
+        it->done = it->way == ASK ? ALONE(close_ours(fd)) : ALONE(close_real(fd));
+        return 1;
+    }
     set_free(fd);
-    return way == PASS ? system_close(fd) : (int)noted(fdref_act_close(fd), system_close(fd));
+    return 0;
 }
+
+#define CLOSES(name) \
+    int name(int fd) \
+    { \
+        NEXT_OF(name); \
+        struct going going; \
+        int given; \
+        if (IS_INNER) \
+            return next(fd); \
+        if (is_closed(&going, fd)) \
+            return (int)going.done; \
+        NEXT_WITHIN(given, next(fd)); \
+        return (int)gone(&going, given); \
+    }
+
+CLOSES(close)
+
+typedef int closes_range(unsigned, unsigned, int);
+enum { KEEPS_TILL_EXEC = 4 };
 
 /* Closes the numbers below NUMBERS of a range, or keeps that an exec would, and gives the first one after these. */
 static unsigned close_low(unsigned first, unsigned last, int is_cloexec)
@@ -297,22 +392,46 @@ static unsigned own_from(unsigned first)
     return lowest;
 }
 
-int close_range(unsigned first, unsigned last, int flags)
+/* Closes a range but for numbers of this library. */
+static int close_others(unsigned first, unsigned last, int flags, closes_range *next)
 {
-    static int (*next)(unsigned, unsigned, int);
-    prepare();
-    find(&next, "close_range");
-    if (how == OFF || first > last)
-        return next(first, last, flags);
-    first = close_low(first, last, (flags & 4) != 0);
-    for (unsigned own = own_from(first); own < last && first <= last; own = own_from(first)) {
+    int done = 0;
+    for (unsigned own = own_from(first); own < last && first <= last && done == 0; own = own_from(first)) {
         if (first < own)
-            next(first, own - 1, flags);
+            done = next(first, own - 1, flags);
         first = own + 1;
     }
-    return first <= last && first != own_from(first) ? next(first, last, flags) : 0;
+    return done == 0 && first <= last && first != own_from(first) ? next(first, last, flags) : done;
 }
 
+/* Logs that the system has closed a range. */
+static int note_closed(unsigned first, unsigned last, int flags, int done)
+{
+    for (; done == 0 && (flags & KEEPS_TILL_EXEC) == 0 && first < NUMBERS && first <= last; first++) {
+        if (slots[first].held == OURS)
+            noted(fdref_act_close((int)first), 0);
+        set_free((int)first);
+    }
+    return done;
+}
+
+static int close_between(unsigned first, unsigned last, int flags, closes_range *next)
+{
+    if (is_off() || is_behind || first > last)
+        return next(first, last, flags);
+    if (how == NATIVE)
+        return note_closed(first, last, flags, (int)BEHIND(close_others(first, last, flags, next)));
+    return close_others(close_low(first, last, (flags & KEEPS_TILL_EXEC) != 0), last, flags, next);
+}
+
+int close_range(unsigned first, unsigned last, int flags)
+{
+    NEXT_OF(close_range);
+    prepare();
+    return close_between(first, last, flags, next);
+}
+
+/* The next one would close numbers of this library. */
 void closefrom(int first) { close_range(first < 0 ? 0 : (unsigned)first, UINT_MAX, 0); }
 
 /* A file of fdref that stdio closes, as programs do with standard output at their end. The close is not logged, since
@@ -327,11 +446,12 @@ static int64_t close_stream(int fd)
 
 int fclose(FILE *file)
 {
+    NEXT_OF(fclose);
     int error = errno, fd = fileno(file), done;
     enum way way = fd < 0 ? PASS : way_of(fd);
     prepare();
     errno = error;
-    done = system_fclose(file);
+    done = next(file);
     if (fd < 0 || fd >= NUMBERS)
         return done;
     if (how == NATIVE)
@@ -345,22 +465,22 @@ int fclose(FILE *file)
 
 /* ---- read and write */
 
-static ssize_t system_transfer(struct fdref_act act, void *bytes)
-{
-    switch (act.kind) {
-    case FDREF_READ: return system_read(act.fd, bytes, (size_t)act.count);
-    case FDREF_WRITE: return system_write(act.fd, bytes, (size_t)act.count);
-    case FDREF_PREAD: return system_pread(act.fd, bytes, (size_t)act.count, act.offset);
-    default: return system_pwrite(act.fd, bytes, (size_t)act.count, act.offset);
-    }
-}
+/* A transfer: the call, its bytes, the parts from which they come or to which they go, or NULL, and the signals that
+   were blocked before. */
+struct moving {
+    struct going going;
+    char *bytes;
+    const struct iovec *parts;
+    sigset_t signals;
+};
 
 static int is_write(int kind) { return kind == FDREF_WRITE || kind == FDREF_PWRITE; }
 
 /* A piece of a transfer that the system made, of which so many bytes are left. */
-static int64_t note_piece(struct fdref_act act, const void *bytes, int64_t given)
+static int64_t note_piece(struct fdref_act act, const void *bytes, int64_t given, int is_last)
 {
-    int64_t some = given > (int64_t)act.count ? (int64_t)act.count : given;
+    int is_more = given > (int64_t)act.count && !(is_last && is_write(act.kind));
+    int64_t some = is_more ? (int64_t)act.count : given;
     uint64_t number = some < 0 ? 0 : (uint64_t)some;
     return note(act, is_write(act.kind) ? fdref_number(number) : fdref_data(bytes, (size_t)number), some);
 }
@@ -373,9 +493,9 @@ static int64_t in_pieces(struct fdref_act act, char *bytes, int64_t given)
     do {
         act.count = rest < FDREF_TRANSFER_MOST ? rest : FDREF_TRANSFER_MOST;
         act.data = is_write(act.kind) ? bytes : NULL;
-        some = how == NATIVE ? note_piece(act, bytes, given < 0 ? given : given - moved)
+        some = how == NATIVE ? note_piece(act, bytes, given < 0 ? given : given - moved, rest == act.count)
                              : ask_most(act, bytes, act.count);
-        if (some < 0)
+        if (some < 0 || (uint64_t)some > rest)
             return moved > 0 ? moved : some;
         moved += some;
         bytes = some > 0 ? bytes + some : bytes;
@@ -397,31 +517,11 @@ static void spread(const struct iovec *parts, char *bytes, size_t size, int is_f
     }
 }
 
-/* A transfer of the system that is logged. The signal of EPIPE comes after that. */
-static ssize_t noted_transfer(struct fdref_act act, char *bytes, const struct iovec *parts, int count)
+static int64_t asked_transfer(struct fdref_act act, char *bytes)
 {
-    sigset_t pipes, before;
-    ssize_t given;
-    int error;
-    sigemptyset(&pipes);
-    sigaddset(&pipes, SIGPIPE);
-    pthread_sigmask(is_write(act.kind) ? SIG_BLOCK : SIG_UNBLOCK, is_write(act.kind) ? &pipes : NULL, &before);
-    if (!parts)
-        given = system_transfer(act, bytes);
-    else
-        given = is_write(act.kind) ? system_writev(act.fd, parts, count) : system_readv(act.fd, parts, count);
-    if (parts && !is_write(act.kind) && given > 0)
-        spread(parts, bytes, (size_t)given, 1);
-    ALONE(in_pieces(act, bytes, given));
-    error = errno;
-    pthread_sigmask(SIG_SETMASK, &before, NULL);
-    errno = error;
-    return given;
-}
-
-static ssize_t asked_transfer(struct fdref_act act, char *bytes)
-{
-    ssize_t moved = (ssize_t)ALONE(in_pieces(act, bytes, 0));
+    int64_t moved;
+    pthread_testcancel();
+    moved = ALONE(in_pieces(act, bytes, 0));
     if (moved < 0 && errno == EPIPE) {
         raise(SIGPIPE);
         errno = EPIPE;
@@ -429,12 +529,41 @@ static ssize_t asked_transfer(struct fdref_act act, char *bytes)
     return moved;
 }
 
-static ssize_t transfer(struct fdref_act act, char *bytes)
+/* A transfer of the system that is to be logged. The signal of EPIPE comes after that. */
+static void begin_moving(struct moving *it)
 {
-    enum way way = way_of(act.fd);
-    if (way == ASK)
-        return asked_transfer(act, bytes);
-    return way == PASS ? system_transfer(act, bytes) : noted_transfer(act, bytes, NULL, 0);
+    sigset_t pipes;
+    sigemptyset(&pipes);
+    sigaddset(&pipes, SIGPIPE);
+    pthread_sigmask(SIG_BLOCK, is_write(it->going.act.kind) ? &pipes : NULL, &it->signals);
+}
+
+static void end_moving(struct moving *it)
+{
+    int error = errno;
+    pthread_sigmask(SIG_SETMASK, &it->signals, NULL);
+    errno = error;
+}
+
+static int is_moved(struct moving *it)
+{
+    it->going.way = way_of(it->going.act.fd);
+    if (it->going.way == NOTE)
+        begin_moving(it);
+    if (it->going.way == ASK)
+        it->going.done = asked_transfer(it->going.act, it->bytes);
+    return it->going.way == ASK;
+}
+
+static ssize_t moved(struct moving *it, ssize_t given)
+{
+    if (it->going.way != NOTE)
+        return given;
+    if (it->parts && !is_write(it->going.act.kind) && given > 0)
+        spread(it->parts, it->bytes, (size_t)given, 1);
+    ALONE(in_pieces(it->going.act, it->bytes, given));
+    end_moving(it);
+    return given;
 }
 
 /* What is written is only read, though the type of a transfer does not say so. */
@@ -445,22 +574,29 @@ static char *bytes_of(const void *data)
     return bytes;
 }
 
-ssize_t read(int fd, void *buffer, size_t count) { return transfer(fdref_act_read(fd, count), (char *)buffer); }
+#define MOVES(name, parameters, words, act_of, data) \
+    ssize_t name parameters \
+    { \
+        NEXT_OF(name); \
+        struct moving moving; \
+        ssize_t given; \
+        if (IS_INNER) \
+            return next words; \
+        moving.going.act = act_of; \
+        moving.bytes = bytes_of(data); \
+        moving.parts = NULL; \
+        if (is_moved(&moving)) \
+            return (ssize_t)moving.going.done; \
+        NEXT_WITHIN(given, next words); \
+        return moved(&moving, given); \
+    }
 
-ssize_t write(int fd, const void *data, size_t count)
-{
-    return transfer(fdref_act_write(fd, NULL, count), bytes_of(data));
-}
-
-ssize_t pread(int fd, void *buffer, size_t count, off_t offset)
-{
-    return transfer(fdref_act_pread(fd, count, offset), (char *)buffer);
-}
-
-ssize_t pwrite(int fd, const void *data, size_t count, off_t offset)
-{
-    return transfer(fdref_act_pwrite(fd, NULL, count, offset), bytes_of(data));
-}
+MOVES(read, (int fd, void *buffer, size_t count), (fd, buffer, count), fdref_act_read(fd, count), buffer)
+MOVES(write, (int fd, const void *data, size_t count), (fd, data, count), fdref_act_write(fd, NULL, count), data)
+MOVES(pread, (int fd, void *buffer, size_t count, off_t offset), (fd, buffer, count, offset),
+      fdref_act_pread(fd, count, offset), buffer)
+MOVES(pwrite, (int fd, const void *data, size_t count, off_t offset), (fd, data, count, offset),
+      fdref_act_pwrite(fd, NULL, count, offset), data)
 
 /* The bytes of all parts, or above SSIZE_MAX. */
 static uint64_t size_of(const struct iovec *parts, int count)
@@ -471,107 +607,213 @@ static uint64_t size_of(const struct iovec *parts, int count)
     return size;
 }
 
-static ssize_t vector(struct fdref_act act, const struct iovec *parts, int count, enum way way)
+/* Whether a transfer with parts is made by fdref, or fails. What is allocated is freed by `freed`. */
+static int are_moved(struct moving *it, struct fdref_act act, const struct iovec *parts, int count)
 {
     uint64_t size = count < 0 || count > IOV_MAX ? UINT64_MAX : size_of(parts, count);
-    char *bytes = size > SSIZE_MAX ? NULL : (char *)malloc((size_t)size + 1);
-    ssize_t moved;
-    if (!bytes)
-        return (ssize_t)fails(size > SSIZE_MAX ? EINVAL : ENOMEM);
-    act.count = size;
+    it->going.act = act;
+    it->going.act.count = size;
+    it->parts = parts;
+    it->going.way = way_of(act.fd);
+    it->bytes = it->going.way == PASS || size > SSIZE_MAX ? NULL : (char *)malloc((size_t)size + 1);
+    if (it->going.way == PASS)
+        return 0;
+    if (!it->bytes) {
+        it->going.done = fails(size > SSIZE_MAX ? EINVAL : ENOMEM);
+        return 1;
+    }
     if (is_write(act.kind))
-        spread(parts, bytes, (size_t)size, 1);
-    moved = way == ASK ? asked_transfer(act, bytes) : noted_transfer(act, bytes, parts, count);
-    if (moved > 0 && way == ASK && !is_write(act.kind))
-        spread(parts, bytes, (size_t)moved, 0);
-    free(bytes);
-    return moved;
+        spread(parts, it->bytes, (size_t)size, 1);
+    is_moved(it);
+    if (it->going.way == ASK && it->going.done > 0 && !is_write(act.kind))
+        spread(parts, it->bytes, (size_t)it->going.done, 0);
+    return it->going.way == ASK;
 }
 
-ssize_t readv(int fd, const struct iovec *parts, int count)
+static ssize_t freed(struct moving *it, int64_t done)
 {
-    enum way way = way_of(fd);
-    return way == PASS ? system_readv(fd, parts, count) : vector(fdref_act_read(fd, 0), parts, count, way);
+    int error = errno;
+    free(it->bytes);
+    errno = error;
+    return (ssize_t)done;
 }
 
-ssize_t writev(int fd, const struct iovec *parts, int count)
-{
-    enum way way = way_of(fd);
-    return way == PASS ? system_writev(fd, parts, count) : vector(fdref_act_write(fd, NULL, 0), parts, count, way);
-}
+#define MOVES_PARTS(name, act_of) \
+    ssize_t name(int fd, const struct iovec *parts, int count) \
+    { \
+        NEXT_OF(name); \
+        struct moving moving; \
+        ssize_t given; \
+        if (IS_INNER) \
+            return next(fd, parts, count); \
+        if (are_moved(&moving, act_of, parts, count)) \
+            return freed(&moving, moving.going.done); \
+        NEXT_WITHIN(given, next(fd, parts, count)); \
+        return freed(&moving, moved(&moving, given)); \
+    }
+
+MOVES_PARTS(readv, fdref_act_read(fd, 0))
+MOVES_PARTS(writev, fdref_act_write(fd, NULL, 0))
 
 /* ---- formatted output
 
    The C library would write by itself, to the placeholder. As it does, what a short write left is written again. */
 
-static int print_all(int fd, char *text, int size)
+static int print_all(int fd, const char *text, int size)
 {
-    int done = 0, error;
+    int done = 0;
     ssize_t some;
     do {
         some = write(fd, text + done, (size_t)(size - done));
         done += some > 0 ? (int)some : 0;
     } while (some > 0 && done < size);
-    error = errno;
-    free(text);
-    errno = error;
     return some < 0 ? -1 : done;
 }
 
+/* How far a file or a pipe has come: its offset, or the bytes that wait. */
+static int64_t reached(int fd)
+{
+    int waiting = 0;
+    int64_t at = seek_by(fd, SEEK_CUR);
+    if (at < 0)
+        at = system_syscall(SYS_ioctl, (long)fd, (long)FIONREAD, &waiting) == 0 ? waiting : 0;
+    return at;
+}
+
+/* Output of so many bytes, which may be none at all: its text, and how far the file was before. */
+struct printing {
+    struct moving moving;
+    int64_t before;
+};
+
+static int is_printed(struct printing *it, int fd, char *text, int size)
+{
+    struct going *going = &it->moving.going;
+    int error = errno;
+    it->moving.bytes = text;
+    it->moving.parts = NULL;
+    going->way = way_of(fd);
+    going->act = fdref_act_write(fd, NULL, size < 0 ? 0 : (size_t)size);
+    if (going->way == ASK) {
+        going->done = size > 0 ? print_all(fd, text, size) : size < 0 || slot_of(fd).held != FREE ? size : fails(EBADF);
+        return 1;
+    }
+    if (going->way == NOTE) {
+        begin_moving(&it->moving);
+        it->before = reached(fd);
+    }
+    errno = error;
+    return 0;
+}
+
+/* Logs what the system printed. What it had written before an error is told by how far the file has come. */
+static int printed(struct printing *it, int done)
+{
+    struct fdref_act act = it->moving.going.act, rest = act;
+    int64_t some;
+    int error = errno;
+    if (it->moving.going.way != NOTE)
+        return done;
+    some = done < 0 ? reached(act.fd) - it->before : done;
+    errno = error;
+    if (act.count > 0 && (done >= 0 || (some > 0 && (uint64_t)some < act.count)))
+        ALONE(in_pieces(act, it->moving.bytes, some));
+    else
+        some = 0;
+    rest.count = act.count - (uint64_t)some;
+    errno = error;
+    if (act.count > 0 && done < 0)
+        ALONE(in_pieces(rest, it->moving.bytes + some, -1));
+    end_moving(&it->moving);
+    return done;
+}
+
+#define PRINTS(fd, text, size, call) \
+    do { \
+        struct printing printing; \
+        int given; \
+        if (is_printed(&printing, fd, text, size)) \
+            return (int)freed(&printing.moving, printing.moving.going.done); \
+        NEXT_WITHIN(given, call); \
+        return (int)freed(&printing.moving, printed(&printing, given)); \
+    } while (0)
+
+/* A function of formats and the values that follow them cannot be given these. It is given the text, but for one with
+   zeros in it. */
+#define PRINTS_VALUES(fd, format, text, size, call, by_list) \
+    do { \
+        if (strlen(text) != (size_t)size) { \
+            free(text); \
+            va_start(values, format); \
+            size = by_list; \
+            va_end(values); \
+            return size; \
+        } \
+        PRINTS(fd, text, size, call); \
+    } while (0)
+
 int vdprintf(int fd, const char *format, va_list values)
 {
-    char *text;
+    NEXT_OF(vdprintf);
+    va_list again;
+    char *text = NULL;
     int size;
-    if (way_of(fd) == PASS)
-        return system_vdprintf(fd, format, values);
-    size = vasprintf(&text, format, values);
-    return size < 0 ? size : print_all(fd, text, size);
+    if (IS_INNER)
+        return next(fd, format, values);
+    va_copy(again, values);
+    size = vasprintf(&text, format, again);
+    va_end(again);
+    PRINTS(fd, size < 0 ? NULL : text, size, next(fd, format, values));
 }
 
 int dprintf(int fd, const char *format, ...)
 {
-    int done;
+    NEXT_OF(dprintf);
     va_list values;
+    char *text = NULL;
+    int size;
     va_start(values, format);
-    done = vdprintf(fd, format, values);
+    size = vasprintf(&text, format, values);
     va_end(values);
-    return done;
+    if (size < 0)
+        return size;
+    PRINTS_VALUES(fd, format, text, size, next(fd, "%s", text), vdprintf(fd, format, values));
 }
 
 /* ---- the offset and the length */
 
-static int64_t seek(int fd, int64_t offset, int whence)
+static int is_sought(struct going *it, int fd, int64_t offset, int whence, size_t width)
 {
-    enum way way = way_of(fd);
-    struct fdref_act act = fdref_act_lseek(fd, offset, whence);
-    int is_known = whence == SEEK_SET || whence == SEEK_CUR || whence == SEEK_END;
-    if (way == ASK && !is_known)
+    int is_base = whence == SEEK_SET || whence == SEEK_CUR || whence == SEEK_END;
+    it->act = fdref_act_lseek(fd, offset, whence);
+    it->way = way_of(fd);
+    if (it->way == NOTE && !is_base)
+        it->way = PASS;
+    if (it->way != ASK)
+        return 0;
+    if (!is_base)
         leave_out_at("lseek by SEEK_DATA and its kin", fd);
-    if (way == ASK)
-        return ALONE(ask_most(act, NULL, INT64_MAX));
-    if (way == NOTE && is_known)
-        return noted(act, BEHIND(system_called_lseek(fd, offset, whence)));
-    return system_called_lseek(fd, offset, whence);
+    it->done = ALONE(ask_most(it->act, NULL, INT64_MAX));
+    if (width < sizeof it->done && it->done > INT32_MAX)
+        it->done = fails(EOVERFLOW);
+    return 1;
 }
 
-off_t lseek(int fd, off_t offset, int whence)
+#define SEEKS(type, name) \
+    GOES(type, name, (int fd, type offset, int whence), (fd, offset, whence), \
+         is_sought(&going, fd, offset, whence, sizeof(type)), gone)
+SEEKS(off_t, lseek)
+
+static int is_cut(struct going *it, int fd, int64_t length)
 {
-    int64_t reached = seek(fd, offset, whence);
-    return sizeof(off_t) >= sizeof reached || reached <= INT32_MAX ? (off_t)reached : (off_t)fails(EOVERFLOW);
+    it->act = fdref_act_ftruncate(fd, length);
+    it->way = way_of(fd);
+    it->done = it->way == ASK ? ALONE(ask(it->act)) : 0;
+    return it->way == ASK;
 }
 
-static int cut(int fd, int64_t length)
-{
-    enum way way = way_of(fd);
-    struct fdref_act act = fdref_act_ftruncate(fd, length);
-    if (way == ASK)
-        return (int)ALONE(ask(act));
-    if (way == NOTE)
-        return (int)noted(act, BEHIND(system_called_ftruncate(fd, length)));
-    return system_called_ftruncate(fd, length);
-}
-
-int ftruncate(int fd, off_t length) { return cut(fd, length); }
+#define CUTS(name, type) GOES(int, name, (int fd, type length), (fd, length), is_cut(&going, fd, length), gone)
+CUTS(ftruncate, off_t)
 
 static int64_t cut_ours(const char *name, int64_t length)
 {
@@ -584,37 +826,42 @@ static int64_t cut_ours(const char *name, int64_t length)
     return done;
 }
 
-static int cut_name(const char *name, int64_t length)
+static int is_name_cut(struct going *it, const char *name, int64_t length)
 {
-    const char *rest = name;
-    return way_of_name("truncate", &rest) == ASK ? (int)ALONE(cut_ours(rest, length)) : system_truncate(name, length);
+    it->way = way_of_name("truncate", &name);
+    it->done = it->way == ASK ? ALONE(cut_ours(name, length)) : 0;
+    return it->way == ASK;
 }
 
-int truncate(const char *name, off_t length) { return cut_name(name, length); }
+/* It is not logged. */
+static int64_t gone_unseen(const struct going *it, int64_t given)
+{
+    (void)it;
+    return given;
+}
+
+#define CUTS_NAME(name, type) \
+    GOES(int, name, (const char *path, type length), (path, length), is_name_cut(&going, path, length), gone_unseen)
+CUTS_NAME(truncate, off_t)
 
 /* ---- duplicates and pipes */
 
-static struct slot slot_of(int fd)
+static int is_duplicated(struct going *it, int fd)
 {
-    struct slot slot = {FREE, 0, 0, 0};
-    return fd >= 0 && fd < NUMBERS ? slots[fd] : slot;
+    it->act = fdref_act_dup(fd);
+    it->way = way_of(fd);
+    it->slot = slot_of(fd);
+    it->is_cloexec = 0;
+    if (how != ASKED)
+        return 0;
+    if (it->way == ASK)
+        it->done = ALONE(taken(ask(it->act), it->slot, 0));
+    else
+        it->done = numbered(system_fcntl(fd, F_DUPFD, NUMBERS), 0);
+    return 1;
 }
 
-int dup(int fd)
-{
-    enum way way = way_of(fd);
-    struct fdref_act act = fdref_act_dup(fd);
-    if (way == ASK)
-        return (int)ALONE(taken(ask(act), slot_of(fd), 0));
-    if (way == NOTE)
-        return (int)taken(noted(act, BEHIND(system_dup(fd))), slot_of(fd), 0);
-    return numbered(how == ASKED ? system_fcntl(fd, F_DUPFD, NUMBERS) : system_dup(fd), 0);
-}
-
-static int behind_dup_to(int fd, int to, int flags)
-{
-    return flags ? system_dup3(fd, to, flags) : system_dup2(fd, to);
-}
+GOES(int, dup, (int fd), (fd), is_duplicated(&going, fd), gone_to_lowest)
 
 static int64_t dup_ours_to(struct fdref_act act, int is_cloexec)
 {
@@ -645,25 +892,39 @@ static int64_t dup_real_to(int fd, int to, int flags)
     return to;
 }
 
-static int dup_to(int fd, int to, int flags)
+static int is_duplicated_to(struct going *it, int fd, int to, int flags)
 {
-    enum way way = way_of(fd);
-    struct fdref_act act = fdref_act_dup2(fd, to);
-    int is_cloexec = flags != 0, done;
+    it->act = fdref_act_dup2(fd, to);
+    it->way = way_of(fd);
+    it->is_cloexec = flags != 0;
     make_way(to);
-    if (way == ASK)
-        return (int)ALONE(dup_ours_to(act, is_cloexec));
-    if (how == ASKED)
-        return (int)ALONE(dup_real_to(fd, to, flags));
-    done = way == PASS ? behind_dup_to(fd, to, flags) : (int)noted(act, BEHIND(behind_dup_to(fd, to, flags)));
-    return fd == to ? done : (int)taken(done, slot_of(fd), is_cloexec);
+    if (how != ASKED)
+        return 0;
+    it->done = it->way == ASK ? ALONE(dup_ours_to(it->act, it->is_cloexec)) : ALONE(dup_real_to(fd, to, flags));
+    return 1;
 }
 
-int dup2(int fd, int to) { return dup_to(fd, to, 0); }
+static int64_t gone_to(const struct going *it, int64_t given)
+{
+    int64_t done = gone(it, given);
+    return is_behind || it->act.fd == it->act.other ? done : taken(done, slot_of(it->act.fd), it->is_cloexec);
+}
+
+#define DUPLICATES_TO(name) \
+    GOES(int, name, (int fd, int to), (fd, to), is_duplicated_to(&going, fd, to, 0), gone_to)
+DUPLICATES_TO(dup2)
 
 int dup3(int fd, int to, int flags)
 {
-    return fd == to || (flags & ~O_CLOEXEC) != 0 ? (int)fails(EINVAL) : dup_to(fd, to, flags);
+    NEXT_OF(dup3);
+    struct going going;
+    int is_refused = fd == to || (flags & ~O_CLOEXEC) != 0;
+    prepare();
+    if (is_refused)
+        return how == ASKED ? (int)fails(EINVAL) : next(fd, to, flags);
+    if (is_duplicated_to(&going, fd, to, flags))
+        return (int)going.done;
+    return (int)gone_to(&going, going.way == NOTE ? BEHIND(next(fd, to, flags)) : next(fd, to, flags));
 }
 
 /* The number to which F_DUPFD leads, where it can: an EBADF is asked with one, too. */
@@ -677,27 +938,25 @@ static int number_from(int from)
 
 static int64_t dup_from_asked(int fd, int from, int is_cloexec)
 {
-    int is_known = fd >= NUMBERS ? is_open_in_kernel(fd) : fd >= 0 && slots[fd].held != FREE;
+    int is_open = fd >= NUMBERS ? is_open_in_kernel(fd) : fd >= 0 && slots[fd].held != FREE;
     struct fdref_act act = fdref_act_dup2(fd, number_from(from));
-    if (is_known && (from < 0 || from >= NUMBERS))
+    if (is_open && (from < 0 || from >= NUMBERS))
         return fails(EINVAL);
-    if (is_known && lowest_free(from) >= NUMBERS)
+    if (is_open && lowest_free(from) >= NUMBERS)
         return fails(EMFILE);
     if (fd >= NUMBERS || (fd >= 0 && slots[fd].held == REAL))
         return dup_real_to(fd, act.other, is_cloexec ? O_CLOEXEC : 0);
     return dup_ours_to(act, is_cloexec);
 }
 
-static int dup_from(int fd, int command, int from)
+/* A native F_DUPFD, or F_DUPFD_CLOEXEC. */
+static int64_t gone_from(const struct going *it, int from, int64_t given)
 {
-    enum way way = way_of(fd);
-    int is_cloexec = command == F_DUPFD_CLOEXEC, done;
-    if (how == ASKED)
-        return (int)ALONE(dup_from_asked(fd, from, is_cloexec));
-    done = system_fcntl(fd, command, from);
-    if (way == NOTE && (done >= 0 || errno == EBADF))
-        noted(fdref_act_dup2(fd, done >= 0 ? done : number_from(from)), done);
-    return (int)taken(done, slot_of(fd), is_cloexec);
+    int fd = it->act.fd;
+    tell_made(from, given);
+    if (it->way == NOTE && (given >= 0 || errno == EBADF))
+        noted(fdref_act_dup2(fd, given >= 0 ? (int)given : number_from(from)), given);
+    return taken(given, slot_of(fd), it->is_cloexec);
 }
 
 static void set_nonblock_at(int end)
@@ -731,20 +990,17 @@ static int64_t pipe_ours(int ends[2], int flags)
     return take_pipe(ends, flags);
 }
 
-static int64_t pipe_noted(int ends[2], int flags)
+static int64_t pipe_noted(int ends[2], int flags, int64_t done)
 {
-    int64_t done = BEHIND(behind_pipe(ends, flags));
     struct fdref_outcome outcome = done < 0 ? fdref_error(errno) : fdref_descriptors(ends[0], ends[1]);
     note(fdref_act_pipe(), outcome, done);
     return done < 0 ? done : take_pipe(ends, flags);
 }
 
 /* A pipe of the kernel: both ends get their numbers, or none. */
-static int64_t pipe_real(int ends[2], int flags)
+static int64_t pipe_real(int ends[2], const int made[2], int flags)
 {
-    int made[2], error;
-    if (behind_pipe(made, flags) < 0)
-        return -1;
+    int error;
     ends[0] = numbered(made[0], flags & O_CLOEXEC);
     ends[1] = ends[0] < 0 ? -1 : numbered(made[1], flags & O_CLOEXEC);
     if (ends[1] >= 0)
@@ -754,24 +1010,51 @@ static int64_t pipe_real(int ends[2], int flags)
     return fails(error);
 }
 
-int pipe2(int ends[2], int flags)
+static int is_pipe_made(struct going *it, int ends[2], int flags)
 {
-    enum way way = (prepare(), way_of_ours());
-    int made[2] = {-1, -1}, done;
-    if (way != PASS && (flags & ~(O_CLOEXEC | O_NONBLOCK)) != 0) {
+    prepare();
+    it->way = way_of_ours();
+    if (it->way != PASS && (flags & ~(O_CLOEXEC | O_NONBLOCK)) != 0) {
         leave_out("call", "pipe2 with other flags", NULL);
-        way = PASS;
+        it->way = PASS;
     }
-    if (way == PASS)
-        done = (int)pipe_real(made, flags);
-    else
-        done = (int)(way == ASK ? ALONE(pipe_ours(made, flags)) : ALONE(pipe_noted(made, flags)));
-    if (done == 0)
-        memcpy(ends, made, sizeof made);
-    return done;
+    it->done = it->way == ASK ? ALONE(pipe_ours(ends, flags)) : 0;
+    return it->way == ASK;
 }
 
-int pipe(int ends[2]) { return pipe2(ends, 0); }
+static int64_t gone_to_pipe(const struct going *it, int ends[2], const int made[2], int flags, int64_t given)
+{
+    ends[0] = made[0];
+    ends[1] = made[1];
+    if (is_behind)
+        return given;
+    if (it->way != NOTE)
+        return given < 0 ? given : pipe_real(ends, made, flags);
+    given = ALONE(pipe_noted(ends, flags, given));
+    tell_made(0, given < 0 ? given : made[0] > made[1] ? made[0] : made[1]);
+    return given;
+}
+
+/* Where a pipe cannot be made, the ends stay as they were. */
+#define MAKES_PIPE(name, parameters, words, flags) \
+    int name parameters \
+    { \
+        NEXT_OF(name); \
+        struct going going; \
+        int made[2] = {-1, -1}, both[2] = {-1, -1}; \
+        int64_t done; \
+        if (is_pipe_made(&going, both, flags)) \
+            done = going.done; \
+        else if (going.way == NOTE) \
+            done = gone_to_pipe(&going, both, made, flags, BEHIND(next words)); \
+        else \
+            done = gone_to_pipe(&going, both, made, flags, next words); \
+        if (done == 0) \
+            memcpy(ends, both, sizeof both); \
+        return (int)done; \
+    }
+MAKES_PIPE(pipe2, (int ends[2], int flags), (made, flags), flags)
+MAKES_PIPE(pipe, (int ends[2]), (made), 0)
 
 /* ---- names */
 
@@ -797,83 +1080,94 @@ static int64_t after_unlink(int64_t done, const char *name)
     return done;
 }
 
-int mkfifoat(int folder, const char *name, mode_t mode)
+static int is_fifo_made(struct going *it, int folder, const char *name)
 {
-    const char *rest = name;
-    enum way way = way_in("mkfifo", folder, &rest);
-    struct fdref_act act = fdref_act_mkfifo(rest);
-    if (way == ASK)
-        return (int)ALONE(ask(act));
-    return way == PASS ? behind_mkfifo(folder, name, mode) : (int)noted(act, BEHIND(behind_mkfifo(folder, name, mode)));
+    it->way = way_in("mkfifo", folder, &name);
+    it->act = fdref_act_mkfifo(name);
+    it->done = it->way == ASK ? ALONE(ask(it->act)) : 0;
+    return it->way == ASK;
 }
 
-int mkfifo(const char *name, mode_t mode) { return mkfifoat(AT_FDCWD, name, mode); }
+GOES(int, mkfifo, (const char *name, mode_t mode), (name, mode), is_fifo_made(&going, AT_FDCWD, name), gone)
+GOES(int, mkfifoat, (int folder, const char *name, mode_t mode), (folder, name, mode),
+     is_fifo_made(&going, folder, name), gone)
 
-int linkat(int folder, const char *name, int new_folder, const char *new_name, int flags)
+static int is_linked(struct going *it, int folder, const char *name, int new_folder, const char *new_name, int flags)
 {
-    const char *rest = name, *new_rest = new_name;
-    enum way way = way_in("link", folder, &rest), new_way = way_in("link", new_folder, &new_rest);
-    struct fdref_act act = fdref_act_link(rest, new_rest);
-    int is_ours = way != PASS && (flags & AT_EMPTY_PATH) == 0;
-    if (is_ours && way == ASK && new_way == ASK)
-        return (int)ALONE(after_link(ask(act), rest, new_rest));
-    if (how == ASKED && is_ours != (new_way != PASS))
-        return (int)fails(EXDEV);
-    if (is_ours && new_way == NOTE)
-        return (int)noted(act, BEHIND(behind_link(folder, name, new_folder, new_name, flags)));
-    return behind_link(folder, name, new_folder, new_name, flags);
+    enum way way = way_in("link", folder, &name), new_way = way_in("link", new_folder, &new_name);
+    int is_whole = way != PASS && (flags & AT_EMPTY_PATH) == 0;
+    it->act = fdref_act_link(name, new_name);
+    it->way = is_whole && new_way == NOTE ? NOTE : PASS;
+    if (is_whole && way == ASK && new_way == ASK)
+        it->done = ALONE(after_link(ask(it->act), name, new_name));
+    else if (how == ASKED && is_whole != (new_way != PASS))
+        it->done = fails(EXDEV);
+    else
+        return 0;
+    return 1;
 }
 
-int link(const char *name, const char *new_name) { return linkat(AT_FDCWD, name, AT_FDCWD, new_name, 0); }
+GOES(int, link, (const char *name, const char *new_name), (name, new_name),
+     is_linked(&going, AT_FDCWD, name, AT_FDCWD, new_name, 0), gone)
+GOES(int, linkat, (int folder, const char *name, int new_folder, const char *new_name, int flags),
+     (folder, name, new_folder, new_name, flags), is_linked(&going, folder, name, new_folder, new_name, flags), gone)
 
-int renameat(int folder, const char *name, int new_folder, const char *new_name)
+static int is_renamed(struct going *it, int folder, const char *name, int new_folder, const char *new_name)
 {
     const char *rest = name, *new_rest = new_name;
     enum way way = way_in("rename", folder, &rest), new_way = way_in("rename", new_folder, &new_rest);
-    struct fdref_act act = fdref_act_rename(rest, new_rest);
+    int is_out = way == ASK && new_way == PASS && new_folder == AT_FDCWD && plain(new_name);
+    it->act = fdref_act_rename(rest, new_rest);
+    it->way = way == NOTE && new_way == NOTE ? NOTE : PASS;
+    if (way == PASS && new_way == ASK && folder == AT_FDCWD && plain(name) && !is_file(new_rest))
+        return 0;
     if (way == ASK && new_way == ASK)
-        return (int)ALONE(after_move(ask(act), rest, new_rest));
-    if (way == PASS && new_way == ASK && folder == AT_FDCWD && plain(name))
-        return is_file(new_rest) ? (int)fails(ENOTDIR) : behind_rename(folder, name, new_folder, new_name);
-    if (way == ASK && new_way == PASS && new_folder == AT_FDCWD && plain(new_name))
-        return (int)fails(is_file(rest) ? EISDIR : ENOENT);
-    if (how == ASKED && (way == PASS) != (new_way == PASS))
-        return (int)fails(EXDEV);
-    if (way == NOTE && new_way == NOTE)
-        return (int)noted(act, BEHIND(behind_rename(folder, name, new_folder, new_name)));
-    return behind_rename(folder, name, new_folder, new_name);
+        it->done = ALONE(after_move(ask(it->act), rest, new_rest));
+    else if (way == PASS && new_way == ASK && folder == AT_FDCWD && plain(name))
+        it->done = fails(ENOTDIR);
+    else if (is_out)
+        it->done = fails(is_file(rest) ? EISDIR : ENOENT);
+    else if (how == ASKED && (way == PASS) != (new_way == PASS))
+        it->done = fails(EXDEV);
+    else
+        return 0;
+    return 1;
 }
 
-int rename(const char *name, const char *new_name) { return renameat(AT_FDCWD, name, AT_FDCWD, new_name); }
+GOES(int, rename, (const char *name, const char *new_name), (name, new_name),
+     is_renamed(&going, AT_FDCWD, name, AT_FDCWD, new_name), gone)
+GOES(int, renameat, (int folder, const char *name, int new_folder, const char *new_name),
+     (folder, name, new_folder, new_name), is_renamed(&going, folder, name, new_folder, new_name), gone)
 
-int unlinkat(int folder, const char *name, int flags)
+static int is_unlinked(struct going *it, int folder, const char *name, int flags)
 {
-    const char *rest = name;
-    enum way way = way_in("unlink", folder, &rest);
-    struct fdref_act act = fdref_act_unlink(rest);
-    if (way != PASS && (flags & AT_REMOVEDIR) != 0) {
-        leave_out("path", "unlinkat of a directory", rest);
-        if (is_file(rest))
-            return (int)fails(ENOSYS);
-        way = PASS;
+    it->way = way_in("unlink", folder, &name);
+    it->act = fdref_act_unlink(name);
+    if (it->way != PASS && (flags & AT_REMOVEDIR) != 0) {
+        leave_out("path", "unlinkat of a directory", name);
+        it->way = PASS;
+        if (!is_file(name))
+            return 0;
+        it->done = fails(ENOSYS);
+        return 1;
     }
-    if (way == ASK)
-        return (int)ALONE(after_unlink(ask(act), rest));
-    if (way == NOTE)
-        return (int)noted(act, BEHIND(behind_unlink(folder, name, flags)));
-    return behind_unlink(folder, name, flags);
+    it->done = it->way == ASK ? ALONE(after_unlink(ask(it->act), name)) : 0;
+    return it->way == ASK;
 }
 
-int unlink(const char *name) { return unlinkat(AT_FDCWD, name, 0); }
+GOES(int, unlink, (const char *name), (name), is_unlinked(&going, AT_FDCWD, name, 0), gone)
+GOES(int, unlinkat, (int folder, const char *name, int flags), (folder, name, flags),
+     is_unlinked(&going, folder, name, flags), gone)
 
-int remove(const char *name)
+static int is_removed(struct going *it, const char *name)
 {
-    const char *rest = name;
-    enum way way = way_of_name("remove", &rest);
-    if (way == ASK)
-        return (int)ALONE(after_unlink(ask(fdref_act_unlink(rest)), rest));
-    return way == PASS ? system_remove(name) : (int)noted(fdref_act_unlink(rest), BEHIND(system_remove(name)));
+    it->way = way_of_name("remove", &name);
+    it->act = fdref_act_unlink(name);
+    it->done = it->way == ASK ? ALONE(after_unlink(ask(it->act), name)) : 0;
+    return it->way == ASK;
 }
+
+GOES(int, remove, (const char *name), (name), is_removed(&going, name), gone)
 
 #include "files.h"
 #include "bounds.h"

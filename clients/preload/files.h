@@ -66,10 +66,11 @@ static int seen(int fd, int done, mode_t mode, uint64_t size, uint32_t links)
         if (done <= 0) \
             return done; \
         find(&next, #function); \
-        done = next words; \
-        if (way == NOTE) \
-            seen(fd, done, done < 0 ? 0 : to->st_mode, done < 0 ? 0 : (uint64_t)to->st_size, \
-                 done < 0 ? 0 : (uint32_t)to->st_nlink); \
+        if (way == PASS) \
+            return next words; \
+        done = (int)BEHIND(next words); \
+        seen(fd, done, done < 0 ? 0 : to->st_mode, done < 0 ? 0 : (uint64_t)to->st_size, \
+             done < 0 ? 0 : (uint32_t)to->st_nlink); \
         return done; \
     }
 
@@ -78,17 +79,18 @@ LOOKS(lstat, (const char *name, struct stat *to), (name, to), AT_FDCWD, 0)
 LOOKS(fstatat, (int folder, const char *name, struct stat *to, int flags), (folder, name, to, flags), folder, flags)
 LOOKS_AT(fstat, (int fd, struct stat *to), (fd, to))
 
-static int access_in(int folder, const char *name, int mode, int flags)
+static int is_accessed(struct going *it, int folder, const char *name, int mode)
 {
     struct file file;
     int done = look("access", folder, name, 0, &file);
-    if (done > 0)
-        return behind_access(folder, name, mode, flags);
-    return done == 0 && (mode & X_OK) != 0 ? (int)fails(EACCES) : done;
+    it->way = PASS;
+    it->done = done == 0 && (mode & X_OK) != 0 ? fails(EACCES) : done;
+    return done <= 0;
 }
 
-int faccessat(int folder, const char *name, int mode, int flags) { return access_in(folder, name, mode, flags); }
-int access(const char *name, int mode) { return access_in(AT_FDCWD, name, mode, 0); }
+GOES(int, access, (const char *name, int mode), (name, mode), is_accessed(&going, AT_FDCWD, name, mode), gone_unseen)
+GOES(int, faccessat, (int folder, const char *name, int mode, int flags), (folder, name, mode, flags),
+     is_accessed(&going, folder, name, mode), gone_unseen)
 
 /* ---- what is asked of a descriptor */
 
@@ -145,37 +147,75 @@ static int control_ours(int fd, int command, int argument)
     }
 }
 
-static int control_noted(int fd, int command, void *argument)
+static int64_t control_noted(int fd, int command, int flags, int given)
 {
-    int given = system_fcntl(fd, command, argument), flags = (int)(intptr_t)argument;
     if (command == F_GETFL)
-        return (int)ALONE(note(fdref_act_getfl(fd), fdref_result_flags(given & STATUS_FLAGS), given));
-    return is_asked_to_set(command, flags) ? (int)noted(fdref_act_setfl(fd, flags & ASKED_FLAGS), given) : given;
+        return ALONE(note(fdref_act_getfl(fd), fdref_result_flags(given & STATUS_FLAGS), given));
+    return is_asked_to_set(command, flags) ? noted(fdref_act_setfl(fd, flags & ASKED_FLAGS), given) : given;
+}
+
+static int is_duplicating(int command) { return command == F_DUPFD || command == F_DUPFD_CLOEXEC; }
+
+/* Whether a command is one of fdref, all of which wait for nobody. */
+static int is_commanded(int command) { return is_duplicating(command) || command == F_GETFL || command == F_SETFL; }
+
+static int is_controlled(struct going *it, int fd, int command, int argument)
+{
+    it->act.fd = fd;
+    it->way = way_of(fd);
+    it->is_cloexec = command == F_DUPFD_CLOEXEC;
+    if (how == ASKED && is_duplicating(command))
+        it->done = ALONE(dup_from_asked(fd, argument, it->is_cloexec));
+    else if (it->way == ASK)
+        it->done = control_ours(fd, command, argument);
+    else
+        return 0;
+    return 1;
+}
+
+static int64_t gone_by(const struct going *it, int command, int argument, int64_t given)
+{
+    if (is_behind)
+        return given;
+    if (is_duplicating(command))
+        return gone_from(it, argument, given);
+    return it->way == NOTE ? control_noted(it->act.fd, command, argument, (int)given) : given;
 }
 
 #define CONTROLS(name) \
     int name(int fd, int command, ...) \
     { \
-        enum way way = way_of(fd); \
+        NEXT_OF(name); \
+        struct going going; \
         void *argument; \
+        int number; \
         va_list values; \
         va_start(values, command); \
         argument = va_arg(values, void *); \
         va_end(values); \
-        if (command == F_DUPFD || command == F_DUPFD_CLOEXEC) \
-            return dup_from(fd, command, (int)(intptr_t)argument); \
-        if (way == ASK) \
-            return control_ours(fd, command, (int)(intptr_t)argument); \
-        return way == NOTE ? control_noted(fd, command, argument) : system_fcntl(fd, command, argument); \
+        number = (int)(intptr_t)argument; \
+        if (is_controlled(&going, fd, command, number)) \
+            return (int)going.done; \
+        if (going.way == NOTE && is_commanded(command)) \
+            return (int)gone_by(&going, command, number, BEHIND(next(fd, command, argument))); \
+        return (int)gone_by(&going, command, number, next(fd, command, argument)); \
     }
 
 CONTROLS(fcntl)
 
-/* Sets O_NONBLOCK alone. */
-static int set_nonblock(int fd, const int *is_set)
+static int64_t set_nonblock(int fd, int is_set)
 {
     int flags = fcntl(fd, F_GETFL);
-    return flags < 0 ? flags : fcntl(fd, F_SETFL, *is_set ? flags | O_NONBLOCK : flags & ~O_NONBLOCK);
+    return flags < 0 ? flags : fcntl(fd, F_SETFL, is_set ? flags | O_NONBLOCK : flags & ~O_NONBLOCK);
+}
+
+/* Logs that the system was to set O_NONBLOCK alone. */
+static int64_t nonblock_noted(int fd, int is_set, int flags, int64_t given)
+{
+    int error = errno, wanted = is_set ? flags | O_NONBLOCK : flags & ~O_NONBLOCK;
+    ALONE(note(fdref_act_getfl(fd), fdref_result_flags(flags & STATUS_FLAGS), flags));
+    errno = error;
+    return flags < 0 ? given : noted(fdref_act_setfl(fd, wanted & (STATUS_FLAGS | ASKED_FLAGS)), given);
 }
 
 #ifdef __GLIBC__
@@ -184,37 +224,69 @@ int ioctl(int fd, unsigned long command, ...)
 int ioctl(int fd, int command, ...)
 #endif
 {
+    NEXT_OF(ioctl);
     enum way way = way_of(fd);
+    int flags;
     void *argument;
     va_list values;
     va_start(values, command);
     argument = va_arg(values, void *);
     va_end(values);
-    if (way != PASS && command == FIONBIO)
-        return set_nonblock(fd, (const int *)argument);
+    if (way == ASK && command == FIONBIO)
+        return (int)set_nonblock(fd, *(const int *)argument);
+    if (way == NOTE && command == FIONBIO) {
+        flags = system_fcntl(fd, F_GETFL, 0);
+        return (int)nonblock_noted(fd, *(const int *)argument, flags, BEHIND(next(fd, command, argument)));
+    }
     if (way != ASK)
-        return system_ioctl(fd, (unsigned long)command, argument);
+        return next(fd, command, argument);
     if (slot_of(fd).held != FREE && (command == FIOCLEX || command == FIONCLEX))
         return set_cloexec(fd, command == FIOCLEX);
     return refuse(fd, "ioctl");
 }
 
-int isatty(int fd)
+static int is_no_terminal(struct going *it, int fd)
 {
-    if (way_of(fd) != ASK)
-        return system_isatty(fd);
-    fails(slot_of(fd).held == FREE ? EBADF : ENOTTY);
-    return 0;
+    it->way = way_of(fd) == ASK ? ASK : PASS;
+    it->done = 0;
+    if (it->way == ASK)
+        fails(slot_of(fd).held == FREE ? EBADF : ENOTTY);
+    return it->way == ASK;
 }
 
-static int synced(int fd) { return slot_of(fd).held == FREE ? (int)fails(EBADF) : 0; }
-int fsync(int fd) { return way_of(fd) == ASK ? synced(fd) : system_fsync(fd); }
-int fdatasync(int fd) { return way_of(fd) == ASK ? synced(fd) : system_fdatasync(fd); }
+GOES(int, isatty, (int fd), (fd), is_no_terminal(&going, fd), gone_unseen)
+
+/* Nothing is to be written that is not there yet. No pipe has that (page of fsync). */
+static int64_t sync_ours(int fd)
+{
+    int64_t done = ask_aside(fdref_act_fstat(fd), NULL, 0);
+    return done < 0 || process->outcome.stat.kind == FDREF_KIND_REGULAR ? done : fails(EINVAL);
+}
+
+static int is_synced(struct going *it, int fd)
+{
+    it->way = way_of(fd) == ASK ? ASK : PASS;
+    if (it->way != ASK)
+        return 0;
+    pthread_testcancel();
+    it->done = ALONE(sync_ours(fd));
+    return 1;
+}
+
+#define SYNCS(name) \
+    int name(int fd) \
+    { \
+        NEXT_OF(name); \
+        struct going going; \
+        return is_synced(&going, fd) ? (int)going.done : next(fd); \
+    }
+SYNCS(fsync)
+SYNCS(fdatasync)
 
 /* ---- processes */
 
 /* The child is attached first, so that it has an exit of its own, however it ends. */
-static int64_t fork_asked(void)
+static int64_t fork_asked(pid_t (*next)(void))
 {
     int64_t number = ask(fdref_act_fork());
     struct fdref *child;
@@ -226,25 +298,29 @@ static int64_t fork_asked(void)
     if (!child)
         end_with(NO_ANSWER, "the child cannot be attached: %s", fdref_no_process(errno));
     child->socket = hidden(child->socket);
-    made = system_fork();
+    is_forking = 1;
+    made = next();
     error = errno;
+    is_forking = 0;
     if (made < 0)
         fdref_exit(child);
     else
         fdref_forget(made == 0 ? process : child);
     process = made == 0 ? child : process;
+    own_pid = getpid();
     errno = error;
     return made;
 }
 
-static pid_t fork_natively(void)
+static pid_t fork_natively(pid_t (*next)(void))
 {
     uint32_t number;
     pid_t made;
     begin_call();
     number = __atomic_fetch_add(&shared->next_number, 1, __ATOMIC_SEQ_CST);
-    made = system_fork();
+    made = next();
     if (made == 0) {
+        own_pid = getpid();
         native_number = number;
         forget_threads();
     }
@@ -253,12 +329,16 @@ static pid_t fork_natively(void)
     return made == 0 ? 0 : (pid_t)ALONE(note(fdref_act_fork(), fdref_number(number), made));
 }
 
-pid_t fork(void)
-{
-    prepare();
-    return how == OFF ? system_fork() : how == NATIVE ? fork_natively() : (pid_t)ALONE(fork_asked());
-}
+#define FORKS(name) \
+    pid_t name(void) \
+    { \
+        NEXT_OF(name); \
+        prepare(); \
+        return is_off() ? next() : how == NATIVE ? fork_natively(next) : (pid_t)ALONE(fork_asked(next)); \
+    }
+FORKS(fork)
 
+/* What shares its memory with its parent could not be told from that. */
 pid_t vfork(void)
 {
     prepare();
@@ -307,14 +387,14 @@ WAITS(waitpid, (pid_t which, int *given, int options), (which, status, options))
 WAITS(wait3, (int *given, int options, struct rusage *used), (status, options, used))
 WAITS(wait4, (pid_t which, int *given, int options, struct rusage *used), (which, status, options, used))
 
-static void end_at_once(int status) __attribute__((noreturn));
-static void end_at_once(int status)
-{
-    prepare();
-    end();
-    for (;;)
-        system__exit(status);
-}
-
-void _exit(int status) { end_at_once(status); }
-void _Exit(int status) { end_at_once(status); }
+#define ENDS(name) \
+    void name(int status) \
+    { \
+        NEXT_OF(name); \
+        prepare(); \
+        end(); \
+        for (;;) \
+            next(status); \
+    }
+ENDS(_exit)
+ENDS(_Exit)

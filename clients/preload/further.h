@@ -31,102 +31,121 @@ int statx(int folder, const char *name, int flags, unsigned wanted, struct statx
 }
 
 /* No call of fdref does what flags ask for. After ENOSYS programs do without them. */
-int renameat2(int folder, const char *name, int new_folder, const char *new_name, unsigned flags)
+static int is_renamed_with(struct going *it, int folder, const char *name, int new_folder, const char *new_name,
+                           unsigned flags)
 {
-    static __typeof__(&renameat2) next;
     prepare();
     if (flags == 0)
-        return renameat(folder, name, new_folder, new_name);
-    if (is_plain_in(folder, name) || is_plain_in(new_folder, new_name)) {
-        leave_out("call", "renameat2 with flags", NULL);
-        return (int)fails(ENOSYS);
+        return is_renamed(it, folder, name, new_folder, new_name);
+    it->way = PASS;
+    if (!is_plain_in(folder, name) && !is_plain_in(new_folder, new_name)) {
+        passes("path", "renameat2", name);
+        return 0;
     }
-    passes("path", "renameat2", name);
-    find(&next, "renameat2");
-    return next(folder, name, new_folder, new_name, flags);
+    leave_out("call", "renameat2 with flags", NULL);
+    it->done = fails(ENOSYS);
+    return 1;
 }
+
+GOES(int, renameat2, (int folder, const char *name, int new_folder, const char *new_name, unsigned flags),
+     (folder, name, new_folder, new_name, flags),
+     is_renamed_with(&going, folder, name, new_folder, new_name, flags), gone)
 
 OPENS(open64, O_LARGEFILE)
 OPENS_IN(openat64, O_LARGEFILE)
 CREATES(creat64, O_LARGEFILE)
 OPENS(__open, 0)
 OPENS(__open64, O_LARGEFILE)
-int __open_2(const char *name, int flags) { return open_in(AT_FDCWD, name, flags, 0); }
-int __open64_2(const char *name, int flags) { return open_in(AT_FDCWD, name, flags | O_LARGEFILE, 0); }
-int __openat_2(int folder, const char *name, int flags) { return open_in(folder, name, flags, 0); }
-int __openat64_2(int folder, const char *name, int flags) { return open_in(folder, name, flags | O_LARGEFILE, 0); }
 
-ssize_t pread64(int fd, void *buffer, size_t count, off64_t offset)
-{
-    return transfer(fdref_act_pread(fd, count, offset), (char *)buffer);
-}
+/* What was compiled with checks: of the mode of an open, and of buffers. */
+#define OPENS_CHECKED(name, also) \
+    OPENS_SO(name, (const char *path, int flags), (path, flags), AT_FDCWD, path, flags | (also), )
+#define OPENS_CHECKED_IN(name, also) \
+    OPENS_SO(name, (int folder, const char *path, int flags), (folder, path, flags), folder, path, flags | (also), )
+OPENS_CHECKED(__open_2, 0)
+OPENS_CHECKED(__open64_2, O_LARGEFILE)
+OPENS_CHECKED_IN(__openat_2, 0)
+OPENS_CHECKED_IN(__openat64_2, O_LARGEFILE)
 
-ssize_t pwrite64(int fd, const void *data, size_t count, off64_t offset)
-{
-    return transfer(fdref_act_pwrite(fd, NULL, count, offset), bytes_of(data));
-}
-
-/* What was compiled with checks of buffers. */
 static size_t checked(size_t count, size_t room)
 {
     if (count > room)
         abort();
     return count;
 }
-ssize_t __read_chk(int fd, void *buffer, size_t count, size_t room) { return read(fd, buffer, checked(count, room)); }
-ssize_t __pread_chk(int fd, void *buffer, size_t count, off_t offset, size_t room)
-{
-    return pread(fd, buffer, checked(count, room), offset);
-}
-ssize_t __pread64_chk(int fd, void *buffer, size_t count, off64_t offset, size_t room)
-{
-    return pread64(fd, buffer, checked(count, room), offset);
-}
 
-ssize_t __read(int fd, void *buffer, size_t count) { return read(fd, buffer, count); }
-ssize_t __write(int fd, const void *data, size_t count) { return write(fd, data, count); }
-ssize_t __pread64(int fd, void *buffer, size_t count, off64_t offset) { return pread64(fd, buffer, count, offset); }
-ssize_t __pwrite64(int fd, const void *data, size_t count, off64_t offset) { return pwrite64(fd, data, count, offset); }
-int __close(int fd) { return close(fd); }
-int __dup2(int fd, int to) { return dup2(fd, to); }
-int __pipe(int ends[2]) { return pipe(ends); }
-off_t __lseek(int fd, off_t offset, int whence) { return lseek(fd, offset, whence); }
-off64_t lseek64(int fd, off64_t offset, int whence) { return seek(fd, offset, whence); }
-int ftruncate64(int fd, off64_t length) { return cut(fd, length); }
-int truncate64(const char *name, off64_t length) { return cut_name(name, length); }
+#define READS_CHECKED(name, type) \
+    MOVES(name, (int fd, void *buffer, size_t count, type offset, size_t room), (fd, buffer, count, offset, room), \
+          fdref_act_pread(fd, checked(count, room), offset), buffer)
+MOVES(__read_chk, (int fd, void *buffer, size_t count, size_t room), (fd, buffer, count, room),
+      fdref_act_read(fd, checked(count, room)), buffer)
+READS_CHECKED(__pread_chk, off_t)
+READS_CHECKED(__pread64_chk, off64_t)
+
+#define READS_AT(name) \
+    MOVES(name, (int fd, void *buffer, size_t count, off64_t offset), (fd, buffer, count, offset), \
+          fdref_act_pread(fd, count, offset), buffer)
+#define WRITES_AT(name) \
+    MOVES(name, (int fd, const void *data, size_t count, off64_t offset), (fd, data, count, offset), \
+          fdref_act_pwrite(fd, NULL, count, offset), data)
+READS_AT(pread64)
+READS_AT(__pread64)
+WRITES_AT(pwrite64)
+WRITES_AT(__pwrite64)
+MOVES(__read, (int fd, void *buffer, size_t count), (fd, buffer, count), fdref_act_read(fd, count), buffer)
+MOVES(__write, (int fd, const void *data, size_t count), (fd, data, count), fdref_act_write(fd, NULL, count), data)
+
+CLOSES(__close)
+DUPLICATES_TO(__dup2)
+MAKES_PIPE(__pipe, (int ends[2]), (made), 0)
+SEEKS(off_t, __lseek)
+SEEKS(off64_t, lseek64)
+CUTS(ftruncate64, off64_t)
+CUTS_NAME(truncate64, off64_t)
 CONTROLS(fcntl64)
 CONTROLS(__fcntl)
-pid_t __fork(void) { return fork(); }
-pid_t __libc_fork(void) { return fork(); }
+FORKS(__fork)
+FORKS(__libc_fork)
+FORKS(_Fork)
 pid_t __vfork(void) { return vfork(); }
-pid_t _Fork(void) { return fork(); }
-pid_t __wait(int *given) { return wait(given); }
-pid_t __waitpid(pid_t which, int *given, int options) { return waitpid(which, given, options); }
-long __sysconf(int name) { return sysconf(name); }
+WAITS(__wait, (int *given), (status))
+WAITS(__waitpid, (pid_t which, int *given, int options), (which, status, options))
+TELLS_NUMBERS(__sysconf)
 
 /* What is compiled with checks of buffers has the C library check the format too. */
+static int checked_text(char **text, int flag, const char *format, va_list values)
+{
+    static int (*formats)(char **, int, const char *, va_list);
+    find(&formats, "__vasprintf_chk");
+    return formats(text, flag, format, values);
+}
+
 int __vdprintf_chk(int fd, int flag, const char *format, va_list values)
 {
-    static int (*next)(int, int, const char *, va_list), (*formats)(char **, int, const char *, va_list);
-    char *text;
+    NEXT_OF(__vdprintf_chk);
+    va_list again;
+    char *text = NULL;
     int size;
-    if (way_of(fd) == PASS) {
-        find(&next, "__vdprintf_chk");
+    if (IS_INNER)
         return next(fd, flag, format, values);
-    }
-    find(&formats, "__vasprintf_chk");
-    size = formats(&text, flag, format, values);
-    return size < 0 ? size : print_all(fd, text, size);
+    va_copy(again, values);
+    size = checked_text(&text, flag, format, again);
+    va_end(again);
+    PRINTS(fd, size < 0 ? NULL : text, size, next(fd, flag, format, values));
 }
 
 int __dprintf_chk(int fd, int flag, const char *format, ...)
 {
-    int done;
+    NEXT_OF(__dprintf_chk);
     va_list values;
+    char *text = NULL;
+    int size;
     va_start(values, format);
-    done = __vdprintf_chk(fd, flag, format, values);
+    size = checked_text(&text, flag, format, values);
     va_end(values);
-    return done;
+    if (size < 0)
+        return size;
+    PRINTS_VALUES(fd, format, text, size, next(fd, flag, "%s", text), __vdprintf_chk(fd, flag, format, values));
 }
 
 int getrlimit64(resource_kind resource, struct rlimit64 *to)
@@ -137,7 +156,7 @@ int getrlimit64(resource_kind resource, struct rlimit64 *to)
     find(&next, "getrlimit64");
     done = next(resource, to);
     if (done == 0 && is_limit_of_numbers(resource))
-        to->rlim_cur = to->rlim_max = NUMBERS;
+        to->rlim_cur = NUMBERS;
     return done;
 }
 
@@ -167,7 +186,7 @@ int setrlimit64(resource_kind resource, const struct rlimit64 *to)
         find(&next, #name); \
         done = next(pid, resource, is_own && is_limit_of_numbers(resource) ? NULL : to, was); \
         if (done == 0 && was && is_own && is_limit_of_numbers(resource)) \
-            was->rlim_cur = was->rlim_max = NUMBERS; \
+            was->rlim_cur = NUMBERS; \
         return done; \
     }
 LIMITS_OF(prlimit, rlimit, RLIM_INFINITY)

@@ -105,6 +105,24 @@ static int fails_with(const char *kind, const char *what, const char *path, int 
         return next words; \
     }
 
+/* The same of what makes a name of a pattern: the name is told that was made. */
+#define MAKES_NAME(type, name, parameters, words, path) \
+    type name parameters \
+    { \
+        NEXT_OF(name); \
+        type made; \
+        int error; \
+        prepare(); \
+        made = next words; \
+        error = errno; \
+        if (is_plain(path)) \
+            leave_out("path", #name, path); \
+        else \
+            passes("path", #name, path); \
+        errno = error; \
+        return made; \
+    }
+
 /* A call with a plain name that is told. It is the system's, but fails where fdref has a file of that name. */
 #define NAMES(type, name, parameters, words, kind, path, value) \
     PASSES_OR_FAILS(type, name, parameters, words, fails_with(kind, #name, path, is_plain(path)), value)
@@ -173,12 +191,12 @@ PASSES_OR_FAILS(int, inotify_add_watch, (int fd, const char *path, uint32_t mask
                             : fails_with("path", "inotify_add_watch", path, is_plain(path)), -1)
 
 /* What makes a file by a pattern of names has the system's folder alone. */
-TELLS(int, mkstemp, (char *path), (path), "path", path, is_plain(path))
-TELLS(int, mkostemp, (char *path, int flags), (path, flags), "path", path, is_plain(path))
-TELLS(int, mkstemps, (char *path, int end), (path, end), "path", path, is_plain(path))
-TELLS(int, mkostemps, (char *path, int end, int flags), (path, end, flags), "path", path, is_plain(path))
-TELLS(char *, mkdtemp, (char *path), (path), "path", path, is_plain(path))
-TELLS(char *, mktemp, (char *path), (path), "path", path, is_plain(path))
+MAKES_NAME(int, mkstemp, (char *path), (path), path)
+MAKES_NAME(int, mkostemp, (char *path, int flags), (path, flags), path)
+MAKES_NAME(int, mkstemps, (char *path, int end), (path, end), path)
+MAKES_NAME(int, mkostemps, (char *path, int end, int flags), (path, end, flags), path)
+MAKES_NAME(char *, mkdtemp, (char *path), (path), path)
+MAKES_NAME(char *, mktemp, (char *path), (path), path)
 TELLS(char *, tempnam, (const char *path, const char *start), (path, start), "path", path, is_here(path))
 
 LOOKS_INTO(DIR *, opendir, (const char *path), (path), path, NULL)
@@ -293,8 +311,14 @@ FAILS(int, getsockopt, (int fd, int level, int name, void *to, socklen_t *size),
 FAILS(int, setsockopt, (int fd, int level, int name, const void *value, socklen_t size),
       (fd, level, name, value, size), is_ours(fd), -1)
 
-/* Of requests that the C library makes meanwhile, in a thread of its own. */
-static int is_listed(struct aiocb *const list[], int count)
+/* Of requests that the C library makes meanwhile, in a thread of its own. In musl those of a list are restricted. */
+#ifdef __GLIBC__
+typedef struct aiocb *const *requests;
+#else
+typedef struct aiocb *restrict const *restrict requests;
+#endif
+
+static int is_listed(requests list, int count)
 {
     int at = 0;
     while (at < count && !(list[at] && is_ours(list[at]->aio_fildes)))
@@ -306,8 +330,62 @@ FAILS(int, aio_read, (struct aiocb *request), (request), is_ours(request->aio_fi
 FAILS(int, aio_write, (struct aiocb *request), (request), is_ours(request->aio_fildes), -1)
 FAILS(int, aio_fsync, (int kind, struct aiocb *request), (kind, request), is_ours(request->aio_fildes), -1)
 FAILS(int, aio_cancel, (int fd, struct aiocb *request), (fd, request), is_ours(fd), -1)
-FAILS(int, lio_listio, (int mode, struct aiocb *const *list, int count, struct sigevent *event),
+FAILS(int, lio_listio, (int mode, requests list, int count, struct sigevent *event),
       (mode, list, count, event), is_listed(list, count), -1)
+
+/* ---- timers and threads */
+
+/* The signal of a timer comes by the time that calls take, which is another one with fdref. */
+static void starts_timer(const char *name, int is_on)
+{
+    prepare();
+    if (is_on)
+        goes_past('-', "timer", name, NULL);
+}
+
+unsigned alarm(unsigned seconds)
+{
+    NEXT_OF(alarm);
+    starts_timer("alarm", seconds > 0);
+    return next(seconds);
+}
+
+useconds_t ualarm(useconds_t first, useconds_t then)
+{
+    NEXT_OF(ualarm);
+    starts_timer("ualarm", first > 0);
+    return next(first, then);
+}
+
+#ifdef __GLIBC__
+typedef __itimer_which_t timer_kind;
+#else
+typedef int timer_kind;
+#endif
+
+int setitimer(timer_kind kind, const struct itimerval *time, struct itimerval *was)
+{
+    NEXT_OF(setitimer);
+    starts_timer("setitimer", time && (time->it_value.tv_sec != 0 || time->it_value.tv_usec != 0));
+    return next(kind, time, was);
+}
+
+int timer_settime(timer_t timer, int flags, const struct itimerspec *time, struct itimerspec *was)
+{
+    NEXT_OF(timer_settime);
+    starts_timer("timer_settime", time && (time->it_value.tv_sec != 0 || time->it_value.tv_nsec != 0));
+    return next(timer, flags, time, was);
+}
+
+/* A thread that waits in a call of fdref is not cancelled before the call has come to an end. */
+int pthread_cancel(pthread_t thread)
+{
+    NEXT_OF(pthread_cancel);
+    prepare();
+    if (how == ASKED && is_held && pthread_equal(owner, thread) && process && process->is_parked)
+        tell_waiting(process->act);
+    return next(thread);
+}
 
 /* ---- programs
 
@@ -341,7 +419,7 @@ static char **handing(char *const env[], char *handed, size_t size)
 {
     size_t count = 0;
     char **with;
-    if (how == OFF || how == ENDED || !is_same(env, "LD_PRELOAD")
+    if (is_off() || how == ENDED || own_pid != getpid() || !is_same(env, "LD_PRELOAD")
         || !is_same(env, how == ASKED ? "FDREF_SOCKET" : "FDREF_LOG") || (process && process->is_parked))
         return NULL;
     while (env[count])
@@ -508,10 +586,10 @@ NAMES(int, __xmknod, (int version, const char *path, mode_t mode, dev_t *device)
 NAMES_IN(int, __xmknodat, (int version, int in, const char *path, mode_t mode, dev_t *device),
          (version, in, path, mode, device), in, path)
 
-TELLS(int, mkstemp64, (char *path), (path), "path", path, is_plain(path))
-TELLS(int, mkostemp64, (char *path, int flags), (path, flags), "path", path, is_plain(path))
-TELLS(int, mkstemps64, (char *path, int end), (path, end), "path", path, is_plain(path))
-TELLS(int, mkostemps64, (char *path, int end, int flags), (path, end, flags), "path", path, is_plain(path))
+MAKES_NAME(int, mkstemp64, (char *path), (path), path)
+MAKES_NAME(int, mkostemp64, (char *path, int flags), (path, flags), path)
+MAKES_NAME(int, mkstemps64, (char *path, int end), (path, end), path)
+MAKES_NAME(int, mkostemps64, (char *path, int end, int flags), (path, end, flags), path)
 LOOKS_INTO(int, scandir64, (const char *path, struct dirent64 ***to, int (*chosen)(const struct dirent64 *),
                             int (*compared)(const struct dirent64 **, const struct dirent64 **)),
            (path, to, chosen, compared), path, -1)

@@ -114,11 +114,40 @@ static int fails_raw(const struct raw *raw, const long *given)
     return path && (!raw->is_in || (int)given[0] == AT_FDCWD) && is_file(path);
 }
 
+#ifdef SYS_close_range
+static int raw_close_range(unsigned first, unsigned last, int flags)
+{
+    return (int)system_syscall(SYS_close_range, (long)first, (long)last, (long)flags);
+}
+#endif
+
+/* Whether a call would close what this library has for itself, so that it is made otherwise, or fails. */
+static int is_kept_open(long number, const long *given, long *done)
+{
+    *done = -1;
+#ifdef SYS_close_range
+    if (number == SYS_close_range) {
+        *done = close_between((unsigned)given[0], (unsigned)given[1], (int)given[2], raw_close_range);
+        return 1;
+    }
+#endif
+#ifdef SYS_dup2
+    if (number == SYS_dup2)
+        make_way((int)given[1]);
+#endif
+    if (number == SYS_dup3)
+        make_way((int)given[1]);
+    if (number != SYS_close || !is_own((int)given[0]))
+        return 0;
+    errno = EBADF;
+    return 1;
+}
+
 long syscall(long number, ...)
 {
-    static long (*next)(long, ...);
+    NEXT_OF(syscall);
     const struct raw *raw = raw_of(number);
-    long given[MOST_WORDS];
+    long given[MOST_WORDS], done;
     va_list values;
     va_start(values, number);
     for (int at = 0; at < MOST_WORDS; at++)
@@ -126,8 +155,29 @@ long syscall(long number, ...)
     va_end(values);
     prepare();
     ours = -1;
+    if (!is_off() && is_kept_open(number, given, &done))
+        return done;
     if (how == ASKED && raw && is_told(raw, given) && fails_raw(raw, given))
         return (long)fails(ENOSYS);
-    find(&next, "syscall");
     return next(number, given[0], given[1], given[2], given[3], given[4], given[5]);
 }
+
+/* Its child is no process of fdref, and may make none of its calls. */
+#define CLONES(name) \
+    int name(int (*function)(void *), void *stack, int flags, void *argument, ...) \
+    { \
+        NEXT_OF(name); \
+        void *more[3]; \
+        va_list values; \
+        va_start(values, argument); \
+        for (int at = 0; at < 3; at++) \
+            more[at] = va_arg(values, void *); \
+        va_end(values); \
+        prepare(); \
+        leave_out("call", #name, NULL); \
+        return next(function, stack, flags, argument, more[0], more[1], more[2]); \
+    }
+CLONES(clone)
+#ifdef __GLIBC__
+CLONES(__clone)
+#endif

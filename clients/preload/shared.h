@@ -26,7 +26,7 @@ static void map_shared(void)
 static void begin_sharing(void)
 {
     int made = memfd_create("fdref-preload", MFD_CLOEXEC);
-    if (made < 0 || system_ftruncate(made, sizeof *shared) != 0)
+    if (made < 0 || system_syscall(SYS_ftruncate, (long)made, (long)sizeof *shared) != 0)
         end_with(NO_ANSWER, "no shared memory: %s", strerror(errno));
     shared_file = hidden(made);
     map_shared();

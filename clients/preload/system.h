@@ -2,63 +2,20 @@
 
 /* ---- the system's functions, as they are behind the ones of this library */
 
-/* The function that takes 64 bits: for what this library does for itself, and for what a program calls. */
+/* The function that takes 64 bits. */
 #ifdef __GLIBC__
 #define LARGE(name) #name "64"
 #else
 #define LARGE(name) #name
 #endif
-#if defined __GLIBC__ && __WORDSIZE == 32
-#define CALLED(name) LARGE(name)
-#else
-#define CALLED(name) #name
-#endif
 
+/* What this library calls for itself. Most of that it asks of the kernel, since the C library may be judged. */
 #define SYSTEM_CALLS(X) \
-    X(int, open, "open", (const char *, int, ...)) \
-    X(int, openat, "openat", (int, const char *, int, ...)) \
-    X(int, close, "close", (int)) \
-    X(ssize_t, read, "read", (int, void *, size_t)) \
-    X(ssize_t, write, "write", (int, const void *, size_t)) \
-    X(ssize_t, pread, CALLED(pread), (int, void *, size_t, int64_t)) \
-    X(ssize_t, pwrite, CALLED(pwrite), (int, const void *, size_t, int64_t)) \
-    X(ssize_t, readv, "readv", (int, const struct iovec *, int)) \
-    X(ssize_t, writev, "writev", (int, const struct iovec *, int)) \
     X(int64_t, lseek, LARGE(lseek), (int, int64_t, int)) \
-    X(int64_t, called_lseek, CALLED(lseek), (int, int64_t, int)) \
-    X(int, ftruncate, LARGE(ftruncate), (int, int64_t)) \
-    X(int, called_ftruncate, CALLED(ftruncate), (int, int64_t)) \
-    X(int, truncate, CALLED(truncate), (const char *, int64_t)) \
-    X(int, dup, "dup", (int)) \
-    X(int, dup2, "dup2", (int, int)) \
-    X(int, dup3, "dup3", (int, int, int)) \
-    X(int, pipe, "pipe", (int *)) \
-    X(int, pipe2, "pipe2", (int *, int)) \
-    X(int, mkfifo, "mkfifo", (const char *, mode_t)) \
-    X(int, mkfifoat, "mkfifoat", (int, const char *, mode_t)) \
-    X(int, link, "link", (const char *, const char *)) \
-    X(int, linkat, "linkat", (int, const char *, int, const char *, int)) \
-    X(int, rename, "rename", (const char *, const char *)) \
-    X(int, renameat, "renameat", (int, const char *, int, const char *)) \
-    X(int, unlink, "unlink", (const char *)) \
-    X(int, unlinkat, "unlinkat", (int, const char *, int)) \
-    X(int, remove, "remove", (const char *)) \
-    X(int, fcntl, "fcntl", (int, int, ...)) \
-    X(int, ioctl, "ioctl", (int, unsigned long, ...)) \
-    X(int, isatty, "isatty", (int)) \
-    X(int, fsync, "fsync", (int)) \
-    X(int, fdatasync, "fdatasync", (int)) \
-    X(int, fclose, "fclose", (FILE *)) \
-    X(int, access, "access", (const char *, int)) \
-    X(int, faccessat, "faccessat", (int, const char *, int, int)) \
     X(int, poll, "poll", (struct pollfd *, nfds_t, int)) \
-    X(pid_t, fork, "fork", (void)) \
-    X(long, sysconf, "sysconf", (int)) \
-    X(long, fpathconf, "fpathconf", (int, int)) \
-    X(long, pathconf, "pathconf", (const char *, int)) \
     X(int, getrlimit, "getrlimit", (int, struct rlimit *)) \
     X(int, setrlimit, "setrlimit", (int, const struct rlimit *)) \
-    X(int, vdprintf, "vdprintf", (int, const char *, va_list)) \
+    X(long, syscall, "syscall", (long, ...)) \
     X(void, _exit, "_exit", (int))
 
 #define DECLARED(type, name, symbol, parameters) static type(*system_##name) parameters;
@@ -87,42 +44,37 @@ static void find_all(void)
 #undef FOUND
 }
 
-/* Without a folder and flags the plain name is called, which a library in between may have for its own. */
-static int behind_open(int folder, const char *name, int flags, mode_t mode)
+#ifdef SYS_fcntl
+enum { RAW_FCNTL = SYS_fcntl };
+#else
+enum { RAW_FCNTL = SYS_fcntl64 };
+#endif
+
+static int system_open(const char *path, int flags, mode_t mode)
 {
-    return folder == AT_FDCWD ? system_open(name, flags, mode) : system_openat(folder, name, flags, mode);
+    return (int)system_syscall(SYS_openat, (long)AT_FDCWD, path, (long)flags, (long)mode);
 }
 
-static int behind_pipe(int *ends, int flags) { return flags ? system_pipe2(ends, flags) : system_pipe(ends); }
-
-static int behind_mkfifo(int folder, const char *name, mode_t mode)
+static ssize_t system_write(int fd, const void *data, size_t count)
 {
-    return folder == AT_FDCWD ? system_mkfifo(name, mode) : system_mkfifoat(folder, name, mode);
+    return (ssize_t)system_syscall(SYS_write, (long)fd, data, count);
 }
 
-static int behind_link(int folder, const char *name, int new_folder, const char *new_name, int flags)
+static int system_close(int fd) { return (int)system_syscall(SYS_close, (long)fd); }
+static int system_fcntl(int fd, int command, int number)
 {
-    if (folder == AT_FDCWD && new_folder == AT_FDCWD && flags == 0)
-        return system_link(name, new_name);
-    return system_linkat(folder, name, new_folder, new_name, flags);
+    return (int)system_syscall(RAW_FCNTL, (long)fd, (long)command, (long)number);
 }
 
-static int behind_rename(int folder, const char *name, int new_folder, const char *new_name)
+static int system_dup3(int fd, int to, int flags)
 {
-    if (folder == AT_FDCWD && new_folder == AT_FDCWD)
-        return system_rename(name, new_name);
-    return system_renameat(folder, name, new_folder, new_name);
+    return (int)system_syscall(SYS_dup3, (long)fd, (long)to, (long)flags);
 }
 
-static int behind_unlink(int folder, const char *name, int flags)
-{
-    return folder == AT_FDCWD && flags == 0 ? system_unlink(name) : system_unlinkat(folder, name, flags);
-}
-
-static int behind_access(int folder, const char *name, int mode, int flags)
-{
-    return folder == AT_FDCWD && flags == 0 ? system_access(name, mode) : system_faccessat(folder, name, mode, flags);
-}
+/* In the function of a name: the one of that name that comes after this library. */
+#define NEXT_OF(name) \
+    static __typeof__(&name) next; \
+    find(&next, #name)
 
 /* The client calls the system, and is no part of what this library shows to a program. */
 #define open system_open
@@ -171,7 +123,7 @@ static void end_with(int status, const char *format, ...)
     va_end(words);
     size = strlen(text);
     text[size++] = '\n';
-    if (system_write && system_write(2, text, size) < 0)
+    if (system_syscall && system_write(2, text, size) < 0)
         size = 0;
     if (process && !is_kept)
         fdref_exit(process);
@@ -183,26 +135,76 @@ static void end_with(int status, const char *format, ...)
             abort();
 }
 
-/* Notes in a line what goes past fdref: `!` where FDREF_STRICT tells it, the place of the last record of its process,
+/* No signal and no cancellation of a thread comes in between. */
+struct quiet {
+    sigset_t signals;
+    int cancels;
+};
+
+static struct quiet be_quiet(void)
+{
+    struct quiet before;
+    sigset_t all;
+    sigfillset(&all);
+    pthread_sigmask(SIG_BLOCK, &all, &before.signals);
+    pthread_setcancelstate(PTHREAD_CANCEL_DISABLE, &before.cancels);
+    return before;
+}
+
+static void end_quiet(struct quiet before)
+{
+    pthread_setcancelstate(before.cancels, NULL);
+    pthread_sigmask(SIG_SETMASK, &before.signals, NULL);
+}
+
+/* Appends to a file of this library. */
+static void append(int file, const char *what, const char *text, size_t size)
+{
+    struct quiet before = be_quiet();
+    int error = errno;
+    while (size > 0) {
+        ssize_t some = system_write(file, text, size);
+        if (some < 0 && errno == EFBIG)
+            end_with(NO_ANSWER, "the program limits the size of files, and %s with it", what);
+        if (some < 0 && errno != EINTR)
+            end_with(NO_ANSWER, "%s cannot be written: %s", what, strerror(errno));
+        text += some > 0 ? some : 0;
+        size -= some > 0 ? (size_t)some : 0;
+    }
+    errno = error;
+    end_quiet(before);
+}
+
+/* Notes in a line what is past fdref: `!` where FDREF_STRICT tells it, the place of the last record of its process,
    the process, its kind, and which call it is. After a tab stands the name that it has. */
-static void goes_past(char mark, const char *kind, const char *what, const char *of)
+static void note_past(char mark, uint64_t place, uint32_t number, const char *kind, const char *what, const char *of)
 {
     char text[400];
     size_t size;
-    int error = errno;
-    if (how != ASKED || past_file < 0 || !process)
+    if (past_file < 0)
         return;
-    size = (size_t)snprintf(text, 150, "%c %llu p%ld %s %s%s", mark, (unsigned long long)process->place,
-                            (long)process->number, kind, what, of ? "\t" : "");
+    size = (size_t)snprintf(text, 150, "%c %llu p%lu %s %s%s", mark, (unsigned long long)place, (unsigned long)number,
+                            kind, what, of ? "\t" : "");
     for (; of && *of && size < sizeof text - 5; of++)
         if (*of >= ' ' && *of < 127 && *of != '%')
             text[size++] = *of;
         else
             size += (size_t)snprintf(text + size, 4, "%%%02x", (unsigned char)*of);
     text[size++] = '\n';
-    if (system_write(past_file, text, size) != (ssize_t)size)
-        end_with(NO_ANSWER, "what goes past fdref cannot be noted: %s", strerror(errno));
-    errno = error;
+    append(past_file, "what goes past fdref", text, size);
+}
+
+static void goes_past(char mark, const char *kind, const char *what, const char *of)
+{
+    if (how == ASKED && process)
+        note_past(mark, process->place, (uint32_t)process->number, kind, what, of);
+}
+
+/* The same in a native run, which has no places. */
+static void goes_past_natively(char mark, const char *kind, const char *what)
+{
+    if (how == NATIVE)
+        note_past(mark, 0, native_number, kind, what, NULL);
 }
 
 /* What fdref leaves out ends a program that has to be strict. */
@@ -292,15 +294,49 @@ static const char *const words[] = {"open", "close", "read", "write", "pread", "
                                     "dup2", "pipe", "mkfifo", "link", "unlink", "fstat", "fork", "getfl", "setfl",
                                     "rename"};
 
-/* Receives for the client, and notes once that a signal came while a call waits, which ends none of fdref. */
+/* What was there for this thread before the call that it makes. */
+static struct quiet quiet_before;
+
+/* Whether a signal has come whose handler would end the call that waits. */
+static int is_interrupting(void)
+{
+    sigset_t pending;
+    struct sigaction action;
+    int number = 1;
+    for (sigpending(&pending); number < NSIG; number++)
+        if (sigismember(&pending, number) == 1 && sigismember(&quiet_before.signals, number) == 0
+            && sigaction(number, NULL, &action) == 0 && action.sa_handler != SIG_DFL && action.sa_handler != SIG_IGN
+            && (action.sa_flags & SA_RESTART) == 0)
+            return 1;
+    return 0;
+}
+
+/* Receives for the client. While a call waits, which no signal ends, they come a little later, since a handler can make
+   calls if the answer comes first. That one would have ended the call is noted once. */
+enum { SIGNAL_MILLISECONDS = 100 };
+
 static ssize_t heard(int socket, void *to, size_t size, int flags)
 {
     static uint64_t interrupted = UINT64_MAX;
-    ssize_t some = recv(socket, to, size, flags);
-    if (some < 0 && errno == EINTR && process && process->is_parked && process->place != interrupted) {
+    struct pollfd answer = {socket, POLLIN, 0};
+    int is_waiting = process && process->is_parked, is_late = is_waiting, is_ended = 0, error;
+    ssize_t some;
+    if (is_waiting) {
+        is_late = system_poll(&answer, 1, SIGNAL_MILLISECONDS) == 0;
+        is_ended = is_interrupting();
+    }
+    if (is_late)
+        pthread_sigmask(SIG_SETMASK, &quiet_before.signals, NULL);
+    some = recv(socket, to, size, flags);
+    error = errno;
+    if (is_late)
+        be_quiet();
+    is_ended |= is_waiting && some < 0 && error == EINTR;
+    if (is_ended && process->place != interrupted) {
         interrupted = process->place;
         goes_past('-', "interrupt", words[process->act - FDREF_OPEN], NULL);
     }
+    errno = error;
     return some;
 }
 
@@ -428,13 +464,14 @@ static void forget_threads(void)
 /* Notes that a native process ends while other threads may be in a call, which has an effect then, and no line. */
 static void note_cut(void)
 {
-    char text[40];
-    int size, others = __atomic_load_n(&live_threads, __ATOMIC_SEQ_CST) - (thread_number > 0);
-    if (how != NATIVE || past_file < 0 || others <= 0)
-        return;
-    size = snprintf(text, sizeof text, "- 0 p%lu cut exit\n", (unsigned long)native_number);
-    if (system_write(past_file, text, (size_t)size) != size)
-        end_with(NO_ANSWER, "the end of threads cannot be noted: %s", strerror(errno));
+    if (__atomic_load_n(&live_threads, __ATOMIC_SEQ_CST) - (thread_number > 0) > 0)
+        goes_past_natively('-', "cut", "exit");
+}
+
+/* Where an offset of a descriptor is, or below 0. */
+static int64_t seek_by(int fd, int whence)
+{
+    return sizeof(long) == 8 ? system_syscall(SYS_lseek, (long)fd, 0L, (long)whence) : system_lseek(fd, 0, whence);
 }
 
 /* How long the log was before this thread began its call, where that is told in a native run. */
@@ -445,7 +482,7 @@ static void begin_call(void)
 {
     int error = errno;
     if (how == NATIVE && tells_starts && log_file >= 0)
-        began = system_lseek(log_file, 0, SEEK_END);
+        began = seek_by(log_file, SEEK_END);
     errno = error;
 }
 
@@ -485,6 +522,5 @@ static void log_line(const uint64_t *place, struct fdref_act act, const struct f
     else
         put_outcome(outcome);
     put("\n");
-    if (system_write(log_file, line, line_size) != (ssize_t)line_size)
-        end_with(NO_ANSWER, "the log cannot be written: %s", strerror(errno));
+    append(log_file, "the log", line, line_size);
 }

@@ -6,7 +6,10 @@ static pthread_mutex_t mutex = PTHREAD_MUTEX_INITIALIZER;
 static pthread_t owner;
 static volatile int is_held;
 static int errno_before;
-static sigset_t signals_before;
+
+/* This process in the system, of those that are known; and whether the system's fork goes on. */
+static pid_t own_pid;
+static int is_forking;
 
 /* A call that another thread keeps for longer than this is told. */
 enum { KEPT_NANOSECONDS = 100000000 };
@@ -20,7 +23,8 @@ static void tell_waiting(int act)
     is_kept = 0;
 }
 
-static void lock(void)
+/* Signals that come for a thread while another one keeps it are let in now and then. */
+static void lock(struct quiet before)
 {
     int is_told = 0, is_locked = pthread_mutex_trylock(&mutex) == 0;
     while (!is_locked) {
@@ -34,22 +38,36 @@ static void lock(void)
             is_told = 1;
             tell_waiting(process->act);
         }
+        if (!is_locked) {
+            pthread_sigmask(SIG_SETMASK, &before.signals, NULL);
+            be_quiet();
+        }
     }
 }
 
-/* In a native run no signal comes in between, so that nothing changes for a program with handlers. */
+/* Ends a call that comes where none can be made. */
+static void refuse_call(void)
+{
+    if (getpid() != own_pid) {
+        is_kept = 1;
+        end_with(NO_ANSWER, "a call comes from a process that fork did not make, as one by clone");
+    }
+    if (is_held && pthread_equal(owner, pthread_self()) && is_forking)
+        end_with(NO_ANSWER, "a call comes within fork, as from a handler of pthread_atfork");
+    if (is_held && pthread_equal(owner, pthread_self()))
+        end_with(NO_ANSWER, "a call comes while another one of the process waits, as from a handler of a signal");
+}
+
+/* No signal comes in between, so that a handler may make calls; but while a call waits. */
 static void enter(void)
 {
     int error = errno;
-    sigset_t all, before;
-    if (is_held && pthread_equal(owner, pthread_self()))
-        end_with(NO_ANSWER, "a call comes while another one of the process waits, as from a handler of a signal");
-    sigfillset(&all);
-    if (how == NATIVE)
-        pthread_sigmask(SIG_BLOCK, &all, &before);
-    lock();
-    if (how == NATIVE)
-        signals_before = before;
+    struct quiet before;
+    if (how == ASKED)
+        refuse_call();
+    before = be_quiet();
+    lock(before);
+    quiet_before = before;
     owner = pthread_self();
     is_held = 1;
     errno_before = error;
@@ -59,28 +77,61 @@ static void enter(void)
 static int64_t left(int64_t value)
 {
     int error = value < 0 ? errno : errno_before;
-    sigset_t before = signals_before;
+    struct quiet before = quiet_before;
     is_held = 0;
     pthread_mutex_unlock(&mutex);
-    if (how == NATIVE)
-        pthread_sigmask(SIG_SETMASK, &before, NULL);
+    end_quiet(before);
     errno = error;
     return value;
 }
 
 #define ALONE(call) (enter(), left(call))
 
-/* Whether this thread is in a function of the system that waits for nobody. A library in between may have it for its
-   own, and may make it of others that are here: these go past. */
+/* Whether this thread is in a function of the system that waits for nobody, so that no signal need come. A library in
+   between may have it for its own, and may make it of others that are here: these go past. */
 static __thread int is_behind;
+static __thread struct quiet quiet_behind;
+
+static void go_behind(void)
+{
+    quiet_behind = be_quiet();
+    is_behind = 1;
+}
 
 static int64_t back(int64_t value)
 {
+    int error = errno;
     is_behind = 0;
+    end_quiet(quiet_behind);
+    errno = error;
     return value;
 }
 
-#define BEHIND(call) (is_behind = 1, back(call))
+#define BEHIND(call) (go_behind(), back(call))
+
+/* The same of one that may wait: the function, so that what its library calls is told from what a handler does. */
+static __thread const void *within;
+
+static const void *go_in(const void *function)
+{
+    const void *before = within;
+    memcpy(&within, function, sizeof within);
+    return before;
+}
+
+static const void *object_of(const void *code)
+{
+    Dl_info found;
+    return dladdr(code, &found) ? found.dli_fbase : NULL;
+}
+
+/* Whether a call comes from that library, where it may be the last thing that it does. */
+static int is_inner(const void *caller)
+{
+    const void *object = within ? object_of(caller) : NULL;
+    return object && (object == object_of(within) || object == object_of(&mutex));
+}
+#define IS_INNER is_inner(__builtin_return_address(0))
 
 static int64_t fails(int number)
 {
@@ -102,7 +153,10 @@ struct slot {
 };
 static struct slot slots[NUMBERS];
 
-static int is_open_in_kernel(int fd) { return system_fcntl(fd, F_GETFD) != -1; }
+static int is_open_in_kernel(int fd) { return system_fcntl(fd, F_GETFD, 0) != -1; }
+
+/* In a native run the numbers that a call known to fdref has made, that were there from the start, or that are told. */
+static char known[NUMBERS];
 
 static int lowest_free(int from)
 {
@@ -126,6 +180,7 @@ static void take(int fd, struct slot slot, int is_cloexec)
         return;
     slots[fd] = slot;
     slots[fd].is_cloexec = is_cloexec;
+    known[fd] = slot.held != FREE;
     if (slot.held == OURS && fd <= 2)
         goes_past('-', "stdio", fd == 0 ? "0" : fd == 1 ? "1" : "2", NULL);
 }
@@ -140,6 +195,22 @@ static void set_free(int fd)
 {
     struct slot slot = {FREE, 0, 0, 0};
     take(fd, slot, 0);
+}
+
+/* A native call has made a descriptor, the lowest that was free from one on. Those below it are told that are open
+   though no call known to fdref has made them, each once. */
+static void tell_made(int from, int64_t fd)
+{
+    int error = errno;
+    int64_t end = fd < 0 && error == EMFILE ? NUMBERS : fd;
+    for (int at = from < 0 ? 0 : from; how == NATIVE && at < end && at < NUMBERS; at++)
+        if (!known[at] && is_open_in_kernel(at)) {
+            char number[12];
+            snprintf(number, sizeof number, "%d", at);
+            known[at] = 1;
+            goes_past_natively('!', "made", number);
+        }
+    errno = error;
 }
 
 /* Pipes have numbers of their own, above those of files. */
@@ -309,14 +380,19 @@ static int64_t look_by_name(const char *name, struct file *file)
 /* The exit is recorded when this returns. Where another thread waits in a call it comes with the end of the program. */
 static void end(void)
 {
+    struct quiet before;
+    if (own_pid != getpid())
+        return;
     note_cut();
     if (how != ASKED || (is_held && pthread_equal(owner, pthread_self())) || pthread_mutex_trylock(&mutex) != 0)
         return;
+    before = be_quiet();
     how = ENDED;
     ender = pthread_self();
     fdref_exit(process);
     process = NULL;
     pthread_mutex_unlock(&mutex);
+    end_quiet(before);
 }
 
 static void end_at_exit(void *unused)
@@ -331,7 +407,7 @@ static void end_quickly(void) { end(); }
 static void take_numbers(void)
 {
     int made = fresh(), is_wanted = 0;
-    blank = hidden(system_open("/dev/null", O_PATH | O_CLOEXEC));
+    blank = hidden(system_open("/dev/null", O_PATH | O_CLOEXEC, 0));
     if (made != 0 || blank < NUMBERS)
         end_with(NO_ANSWER, "descriptors cannot be held");
     for (int fd = 0; fd < NUMBERS; fd++) {
@@ -376,6 +452,9 @@ enum { NATIVE_MOST = 1000 };
 static void begin_natively(void)
 {
     begin_sharing();
+    for (int fd = 0; fd < NUMBERS; fd++)
+        if (is_open_in_kernel(fd))
+            take_real(fd);
     if (getenv("FDREF_BEGUN")) {
         native_number = (uint32_t)getpid() * NATIVE_MOST;
         shared->next_number = native_number + 1;
@@ -404,23 +483,25 @@ static void put_table(char *to, size_t size)
                         process ? (long)process->number : (long)native_number,
                         process ? (unsigned long long)process->place : 0, process ? process->socket : -1, shared_file);
     for (int fd = 0; fd < NUMBERS; fd++)
-        used += snprintf(to + used, size - (size_t)used, " %d %d %d %llx", (int)slots[fd].held, slots[fd].is_cloexec,
-                         slots[fd].is_pipe, (unsigned long long)slots[fd].inode);
+        used += snprintf(to + used, size - (size_t)used, " %d %d %d %llx", known[fd] ? (int)slots[fd].held : FREE,
+                         slots[fd].is_cloexec, slots[fd].is_pipe, (unsigned long long)slots[fd].inode);
 }
 
 /* Reads one number of what was handed on. */
 static long long next_of(char **at, int base) { return strtoll(*at, at, base); }
 
-/* What an exec closes is closed in fdref too. */
-static void take_slot(int fd, struct slot slot)
+/* What an exec closes is closed in fdref too. Gives whether the program opened the number before this library began. */
+static int take_slot(int fd, struct slot slot)
 {
-    int is_there = slot.held != FREE && (slot.held == OURS && how == ASKED ? !slot.is_cloexec : is_open_in_kernel(fd));
+    int is_open = is_open_in_kernel(fd), is_early = how == ASKED && slot.held == FREE && is_open;
+    int is_there = slot.held != FREE && (slot.held == OURS && how == ASKED ? !slot.is_cloexec : is_open);
     if (how == ASKED && slot.held != FREE && !is_there)
         ask_aside(fdref_act_close(fd), NULL, 0);
-    if (how == ASKED && (slot.held == OURS || !is_there))
+    if (how == ASKED && !is_early && (slot.held == OURS || !is_there))
         make_blank(fd);
-    if (is_there)
+    if (is_there || is_early)
         take(fd, slot, 0);
+    return is_early;
 }
 
 /* Goes on as the process that a program before this one was, where it is still this one. */
@@ -428,7 +509,7 @@ static int take_over(char *at)
 {
     long number;
     unsigned long long place;
-    int connection;
+    int connection, are_early[NUMBERS];
     if (!at || next_of(&at, 10) != getpid())
         return 0;
     number = (long)next_of(&at, 10);
@@ -445,7 +526,7 @@ static int take_over(char *at)
         process->socket = connection;
         process->number = (pid_t)number;
         process->place = place;
-        blank = hidden(system_open("/dev/null", O_PATH | O_CLOEXEC));
+        blank = hidden(system_open("/dev/null", O_PATH | O_CLOEXEC, 0));
     }
     hand_files(FD_CLOEXEC);
     for (int fd = 0; fd < NUMBERS; fd++) {
@@ -454,8 +535,11 @@ static int take_over(char *at)
         slot.is_cloexec = (int)next_of(&at, 10);
         slot.is_pipe = (int)next_of(&at, 10);
         slot.inode = (uint64_t)next_of(&at, 16);
-        take_slot(fd, slot);
+        are_early[fd] = take_slot(fd, slot);
     }
+    for (int fd = 0; fd < NUMBERS; fd++)
+        if (are_early[fd] && hold_at(fd) >= 0)
+            take_real(fd);
     return 1;
 }
 
@@ -465,7 +549,7 @@ static void end_at_last(void)
     at_quick_exit(end_quickly);
 }
 
-/* Begins where that was not done yet. */
+/* Begins where that was not done yet. Before the program has its environment, nothing is changed. */
 static void prepare(void)
 {
     const char *socket_named, *log_named, *past_named, *strict, *starts;
@@ -473,6 +557,9 @@ static void prepare(void)
     if (how != UNKNOWN)
         return;
     find_all();
+    if (!environ)
+        return;
+    own_pid = getpid();
     socket_named = getenv("FDREF_SOCKET");
     log_named = getenv("FDREF_LOG");
     past_named = getenv("FDREF_PAST");
@@ -504,6 +591,8 @@ static void prepare(void)
 
 __attribute__((constructor)) static void prepare_at_load(void) { prepare(); }
 
+static int is_off(void) { return how == OFF || how == UNKNOWN; }
+
 /* ---- ways */
 
 /* PASS: the call is the system's alone. NOTE: the same, and logged. ASK: it is asked of fdref. */
@@ -511,10 +600,10 @@ enum way { PASS, NOTE, ASK };
 
 static enum way way_of_ours(void)
 {
-    if (is_behind)
+    if (is_behind || is_off())
         return PASS;
     begin_call();
-    return how == OFF ? PASS : how == NATIVE ? NOTE : ASK;
+    return how == NATIVE ? NOTE : ASK;
 }
 
 /* The way of a call with a descriptor. In a native run the kernel knows best which are open. */
@@ -522,7 +611,7 @@ static enum way way_of(int fd)
 {
     int error = errno;
     prepare();
-    if (how == OFF || is_behind || fd >= NUMBERS)
+    if (is_off() || is_behind || fd >= NUMBERS)
         return PASS;
     if (how == NATIVE && fd >= 0 && slots[fd].held != OURS)
         slots[fd].held = is_open_in_kernel(fd) ? REAL : FREE;
@@ -572,13 +661,19 @@ static int is_file(const char *name)
     return is_there;
 }
 
+/* Whether the kernel has something at a path. */
+static int is_reached(const char *path)
+{
+    return system_syscall(SYS_faccessat, (long)AT_FDCWD, path, (long)F_OK) == 0 || errno == EACCES;
+}
+
 /* Whether a plain name is that of a folder of the kernel, and of no file of fdref. */
 static int is_folder(const char *name)
 {
     char path[NAME_MAX + 3];
     int error = errno, is_there = 0;
     if (*name && snprintf(path, sizeof path, "%s/.", name) < (int)sizeof path)
-        is_there = (system_faccessat(AT_FDCWD, path, F_OK, 0) == 0 || errno == EACCES) && !is_file(name);
+        is_there = is_reached(path) && !is_file(name);
     errno = error;
     return is_there;
 }
@@ -588,7 +683,7 @@ static enum way way_of_name(const char *what, const char **name)
 {
     const char *rest = plain(*name);
     prepare();
-    if (!rest || how == OFF || is_folder(rest))
+    if (!rest || is_off() || is_folder(rest))
         return way_elsewhere(what, *name);
     *name = rest;
     return way_of_ours();

@@ -338,6 +338,8 @@ static void pipes(void)
     GIVES(read(3, bytes, 2), 0);
     FAILS(lseek(3, 0, SEEK_CUR), ESPIPE);
     FAILS(pread(3, bytes, 1, 0), ESPIPE);
+    FAILS(fsync(3), EINVAL);
+    FAILS(fdatasync(3), EINVAL);
     errno = 0;
     GIVES(close(3), 0);
     closes(5, 6);

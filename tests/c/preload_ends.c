@@ -10,6 +10,7 @@
 #include <dirent.h>
 #include <poll.h>
 #include <pthread.h>
+#include <sched.h>
 #include <spawn.h>
 #include <sys/epoll.h>
 #include <sys/file.h>
@@ -168,11 +169,19 @@ static int tell_limits(void)
     return of(prlimit(0, RLIMIT_NOFILE, &was, NULL));
 }
 
+static char stack[65536];
+static int leave(void *unused)
+{
+    (void)unused;
+    _exit(0);
+}
+
 /* Calls by their numbers, with what fdref has and with what it has not. */
 static int of_numbers(const char *word)
 {
     if (strcmp(word, "syscall of openat") == 0) return of(syscall(SYS_openat, AT_FDCWD, "none", O_RDONLY));
     if (strcmp(word, "syscall of pipe2") == 0) return of(syscall(SYS_pipe2, pipe_ends, 0));
+    if (strcmp(word, "clone") == 0) return of(clone(leave, stack + sizeof stack, SIGCHLD, NULL) < 0 ? -1 : 0);
     if (strcmp(word, "syscall of fstat") == 0) return of(syscall(SYS_fstat, fd, bytes));
     if (strcmp(word, "syscall of dup3") == 0) return of(syscall(SYS_dup3, 1, fd, 0));
     if (strcmp(word, "syscall of unlinkat") == 0) return of(syscall(SYS_unlinkat, AT_FDCWD, "a", 0));

@@ -34,7 +34,7 @@ NOT_PATHS = set(
 )
 
 # These run programs, or make another call: preload_programs.py has them.
-ELSEWHERE = re.compile(r"posix_spawnp?|system|popen|syscall")
+ELSEWHERE = re.compile(r"posix_spawnp?|system|popen|syscall|(?:__)?clone")
 # No header has these.
 LETTERS = {"__xmknod": ["4n4b"], "__xmknodat": ["4wn4b"]}
 # These make a file of the system, or look for a free name there, and do not fail.

@@ -2,6 +2,8 @@
 
 import errno
 import os
+import re
+import resource
 import select
 import signal
 import socket
@@ -12,6 +14,7 @@ from collections.abc import Iterator, Sequence
 from concurrent.futures import ThreadPoolExecutor
 from functools import partial
 from pathlib import Path
+from typing import NamedTuple
 
 from parts.c_programs import WARNINGS, compiles
 from parts.preload_builds import (
@@ -76,8 +79,8 @@ NAMES = [
     "fopen", "freopen", "symlink", "readlink", "mkdir", "rmdir", "unlinkat of a directory", "opendir", "mkstemp",
     "mknod", "chmod", "chown", "utimensat", "chdir", "open with other flags", "pipe2 with other flags", "execve",
     "execv", "execvp", "execl", "execle", "execlp", "system", "popen", "posix_spawn", "posix_spawnp",
-    "syscall of openat", "syscall of pipe2", "setrlimit of RLIMIT_FSIZE", "the path /dev/null", "the path /dev/none",
-    "none in a folder", "new in a folder",
+    "syscall of openat", "syscall of pipe2", "clone", "setrlimit of RLIMIT_FSIZE", "the path /dev/null",
+    "the path /dev/none", "none in a folder", "new in a folder",
 ]  # fmt: skip
 DESCRIPTORS = [
     "fdopen", "mmap", "ioctl", "flock", "lockf", "sendfile", "copy_file_range", "splice", "preadv", "pwritev",
@@ -112,7 +115,7 @@ def changes_nothing(library: Library) -> None:
 
 
 # What a library in between gives, and what is logged of it.
-BETWEEN_SAYS = b"9 1 0 0 0 0 -1\n"
+BETWEEN_SAYS = b"9 1 0 0 0 0 -1 4 2\n"
 BETWEEN_LOG = """- p0 open a rw,creat = 3
 - p0 dup2 3 9 = 9
 - p0 lseek 3 0 set = 1
@@ -120,18 +123,175 @@ BETWEEN_LOG = """- p0 open a rw,creat = 3
 - p0 link a c = ok
 - p0 mkfifo f = ok
 - p0 ftruncate 3 5 = ok
-- p0 unlink a = error EPERM""".splitlines()
+- p0 unlink a = error EPERM
+- p0 open a w,creat,trunc = 4
+- p0 write 4 x776f7264 = 2""".splitlines()
+
+# What is logged of one whose functions all fail.
+NAMES_LOG = """- p0 open a rw,creat = 3
+- p0 open a r = error EXFULL
+- p0 open a r = error EXFULL
+- p0 open a r = error EXFULL
+- p0 open a w,creat,trunc = error EXFULL
+- p0 open a w,creat,trunc = error EXFULL
+- p0 read 3 2 = error EXFULL
+- p0 write 3 x0000 = error EXFULL
+- p0 pread 3 1 2 = error EXFULL
+- p0 pread 3 1 2 = error EXFULL
+- p0 pwrite 3 1 x0000 = error EXFULL
+- p0 pwrite 3 1 x0000 = error EXFULL
+- p0 read 3 2 = error EXFULL
+- p0 write 3 x0000 = error EXFULL
+- p0 write 3 x3132 = error EXFULL
+- p0 lseek 3 0 set = error EXFULL
+- p0 lseek 3 0 set = error EXFULL
+- p0 ftruncate 3 1 = error EXFULL
+- p0 ftruncate 3 1 = error EXFULL
+- p0 dup 3 = error EXFULL
+- p0 dup2 3 9 = error EXFULL
+- p0 dup2 3 9 = error EXFULL
+- p0 pipe = error EXFULL
+- p0 pipe = error EXFULL
+- p0 mkfifo f = error EXFULL
+- p0 mkfifo f = error EXFULL
+- p0 link a b = error EXFULL
+- p0 link a b = error EXFULL
+- p0 rename a b = error EXFULL
+- p0 rename a b = error EXFULL
+- p0 rename a b = error EXFULL
+- p0 unlink a = error EXFULL
+- p0 unlink a = error EXFULL
+- p0 unlink a = error EXFULL
+- p0 getfl 3 = error EXFULL
+- p0 getfl 3 = 3
+- p0 setfl 3 rw = error EXFULL
+- p0 fstat 3 = error EXFULL
+- p0 close 3 = error EXFULL
+- p0 fork = error EXFULL""".splitlines()
+
+# Programs that do what the library does by itself, and how they end in both runs.
+APART = ["cancelled too late", "all closed", "early"]
 
 
-def calls_between(library: Library) -> None:
-    """Natively the functions of a library are called that stands between a program and the system's, by the names that
-    the program calls. What such a function asks for is no call of the program."""
-    between = os.path.join(library.folder, f"{library.name.replace(' ', '-')}-between.so")
-    shared = ["-DBETWEEN", "-shared", "-fPIC", str(C_TESTS / "preload_between.c"), "-o", between]
+def calls_between(library: Library, kind: str, words: Sequence[str], stdout: bytes, log: Sequence[str]) -> None:
+    """Natively the functions of a library are called that stands between a program and the system's, by the very names
+    that the program calls. What such a function asks for is no call of the program, and the log is there without it."""
+    between = os.path.join(library.folder, f"{library.name.replace(' ', '-')}-{kind}.so")
+    shared = [f"-D{kind}", "-shared", "-fPIC", str(C_TESTS / "preload_between.c"), "-o", between]
     compiles([library.compiler, "-std=c99", "-O1", *WARNINGS, *shared])
-    command = [library.program("preload_between")]
+    command = [library.program("preload_between"), *words]
     given = started(library, command, [f"LD_PRELOAD={library.built()}:{between}"])
-    same(Given(Ran(0, BETWEEN_SAYS, b""), BETWEEN_LOG), given)
+    same(Given(Ran(0, stdout, b""), list(log)), given)
+
+
+# ---- what the library has to keep apart from what it does itself
+
+
+def apart(program: str, library: Library, word: str) -> None:
+    """A program does what the library does by itself, and is given the same in both runs."""
+    command = [library.program("preload_apart"), word]
+    native = natively(library, command)
+    same(Ran(0, b"", b""), native.ran)
+    with Server(program, 1) as server:
+        asked = asking(library, server, command)
+        agree(native, asked)
+        ended(server, 1, asked.log)
+
+
+class Noted(NamedTuple):
+    """What a program was given, and what was noted of it, without places."""
+
+    given: Given
+    past: list[str]
+
+
+def noted(library: Library, word: str, settings: Sequence[str]) -> Noted:
+    """What is noted of a program of preload_apart."""
+    with empty_folder() as folder:
+        past = os.path.join(folder, "past")
+        given = started(library, [library.program("preload_apart"), word], [f"FDREF_PAST={past}", *settings])
+        lines = Path(past).read_text(encoding="ascii").splitlines()
+    return Noted(given, [re.sub(r"^(.) \d+ ", r"\1 ", line) for line in lines])
+
+
+def noted_asking(program: str, library: Library, word: str, settings: Sequence[str] = (), sessions: int = 1) -> Noted:
+    """The same of one that asks a server."""
+    with Server(program, sessions, ALL_RECORDS) as server:
+        listens(server)
+        found = noted(library, word, [f"FDREF_SOCKET={server.path}", *settings])
+        ended(server, sessions, found.given.log)
+    return found
+
+
+def hears_between(program: str, library: Library) -> None:
+    """Handlers of signals make calls while no call waits."""
+    same(Ran(0, b"", b""), noted(library, "signals", ()).given.ran)
+    asked = noted_asking(program, library, "signals", sessions=2)
+    same(Ran(0, b"", b""), asked.given.ran)
+    require("- p0 interrupt lseek" not in asked.past, "a call that does not wait is interrupted")
+
+
+def starts_timers(program: str, library: Library) -> None:
+    """Timers that a program starts are noted."""
+    same([], noted(library, "timers", ()).past)
+    asked = noted_asking(program, library, "timers")
+    same(Ran(0, b"", b""), asked.given.ran)
+    same([f"- p0 timer {name}" for name in ("alarm", "ualarm", "setitimer", "timer_settime")], asked.past)
+
+
+def cancels(program: str, library: Library) -> None:
+    """A thread is cancelled where it is in the system. One that waits in a call of fdref is not, which is told."""
+    same(Ran(0, b"", b""), noted(library, "cancelled", ()).given.ran)
+    same(Ran(0, b"", b""), noted_asking(program, library, "cancelled").given.ran)
+    same(Ran(0, b"", b""), noted(library, "cancelled while it waits", ()).given.ran)
+    asked = noted_asking(program, library, "cancelled while it waits", ["FDREF_STRICT=1"])
+    same(Ran(LEFT_OUT, b"", b"fdref: a thread that waits beside others is left out\n"), asked.given.ran)
+    same(["! p0 thread read"], asked.past)
+
+
+def has_no_room(program: str, library: Library) -> None:
+    """Where a program limits the size of files it cannot be logged any more."""
+    told = b"fdref: the program limits the size of files, and the log with it\n"
+    with Server(program, 1) as server, empty_folder() as folder:
+        listens(server)
+        past = os.path.join(folder, "past")
+        command = [library.program("preload_apart"), "small files"]
+        for settings in ([], [f"FDREF_SOCKET={server.path}", f"FDREF_PAST={past}"]):
+            with empty_folder() as own:
+                words = [*environment(library, [f"FDREF_LOG={own}/log", *settings]), *command]
+                same(Ran(NO_ANSWER, b"", told), run(words, seconds=SECONDS, folder=own))
+        require("p0 limit RLIMIT_FSIZE\n" in Path(past).read_text(encoding="ascii"), "the limit is not noted")
+
+
+def numbers_others(library: Library) -> None:
+    """Natively it is told once which descriptors no call known to fdref has made."""
+    found = noted(library, "other numbers", ())
+    same(Ran(0, b"", b""), found.given.ran)
+    same(["! p0 made 6", "! p0 made 7"], found.past)
+    same(["- p0 dup 3 = 8", "- p0 dup 3 = 9", "- p0 dup 3 = 6"], found.given.log[-3:])
+
+
+def names_made(program: str, library: Library) -> None:
+    """A name that is made of a pattern is noted."""
+    asked = noted_asking(program, library, "a name")
+    same([f"! p0 path mkstemp\t{asked.given.ran.stdout.decode('ascii')}"], asked.past)
+
+
+def clones(program: str, library: Library) -> None:
+    """A child that fork did not make may make no call, and its parent goes on."""
+    asked = noted_asking(program, library, "clone")
+    told = b"fdref: a call comes from a process that fork did not make, as one by clone\n"
+    same(Ran(0, b"%d\n" % NO_ANSWER, told), asked.given.ran)
+    same(["! p0 call clone"], asked.past)
+
+
+def handles_forks(program: str, library: Library) -> None:
+    """A handler of pthread_atfork may make no call."""
+    with Server(program, 2) as server:
+        asked = asking(library, server, [library.program("preload_apart"), "handlers of fork"])
+        told = b"fdref: a call comes within fork, as from a handler of pthread_atfork\n"
+        same(Ran(NO_ANSWER, b"", told), asked.ran)
+        ended(server, 2, asked.log)
 
 
 def ends(program: str, library: Library, word: str) -> None:
@@ -213,7 +373,7 @@ def is_noted(word: str, notes: list[str], log: list[str]) -> bool:
     """Whether the last of what was noted is this, after the last call that is logged."""
     place, actor = log[-1].split(" ")[:2]
     is_last = bool(notes) and notes[-1].startswith(f"! {place} {actor} ")
-    return is_last and word.removeprefix("the path ") in notes[-1]
+    return is_last and word.removeprefix("the path ").removeprefix("setrlimit of ") in notes[-1]
 
 
 def refuses(program: str, library: Library) -> None:
@@ -230,10 +390,11 @@ def refuses(program: str, library: Library) -> None:
 
 
 def tells_limits(program: str, library: Library) -> None:
-    """The limits of numbers are those of fdref, and cannot be changed."""
+    """How many numbers there are is fdref's limit, which cannot be changed; how many there could be is the system's."""
+    most = resource.getrlimit(resource.RLIMIT_NOFILE)[1]
     with Server(program, 1) as server:
         given = asking(library, server, [library.program("preload_ends"), "limits"])
-        same(Ran(errno.ENOSYS, b"32 32 32 32\n", b""), given.ran)
+        same(Ran(errno.ENOSYS, b"32 %d 32 %d\n" % (most, most), b""), given.ran)
 
 
 def prints_to_the_end(program: str, library: Library) -> None:
@@ -348,7 +509,12 @@ def programs(program: str, library: Library) -> Iterator[Case]:
         yield " ".join([name, *words, library.name]), partial(both, program, library, name, words, sessions, before)
     yield f"high numbers, {library.name}", partial(goes_high, library)
     yield f"neither server nor log, {library.name}", partial(changes_nothing, library)
-    yield f"a library in between, {library.name}", partial(calls_between, library)
+    between = partial(calls_between, library)
+    yield f"a library in between, {library.name}", partial(between, "BETWEEN", [], BETWEEN_SAYS, BETWEEN_LOG)
+    yield f"names in between, {library.name}", partial(between, "NAMES", ["names"], b"", NAMES_LOG)
+    for word in APART:
+        yield f"{word}, {library.name}", partial(apart, program, library, word)
+    yield f"other numbers, {library.name}", partial(numbers_others, library)
 
 
 def endings(program: str, library: Library) -> Iterator[Case]:
@@ -363,6 +529,13 @@ def endings(program: str, library: Library) -> Iterator[Case]:
     yield f"prints to the end of a file, {library.name}", partial(prints_to_the_end, program, library)
     yield f"a thread that waits, {library.name}", partial(waits_beside, program, library)
     yield f"handlers of signals, {library.name}", partial(is_interrupted, program, library)
+    yield f"handlers between calls, {library.name}", partial(hears_between, program, library)
+    yield f"timers, {library.name}", partial(starts_timers, program, library)
+    yield f"threads that are cancelled, {library.name}", partial(cancels, program, library)
+    yield f"small files, {library.name}", partial(has_no_room, program, library)
+    yield f"a name that is made, {library.name}", partial(names_made, program, library)
+    yield f"clone, {library.name}", partial(clones, program, library)
+    yield f"handlers of fork, {library.name}", partial(handles_forks, program, library)
     yield f"no server, {library.name}", partial(is_without_server, library)
     yield f"no place, {library.name}", partial(is_without_a_place, program, library)
     yield f"a run that is full, {library.name}", partial(is_full, program, library)
