@@ -240,11 +240,14 @@ static int64_t gone_to_lowest(const struct going *it, int64_t given)
         return (type)after(&going, next words); \
     }
 
-/* What follows in a function that may wait, where `given` is what the next one gives. */
+/* What follows in a function that may wait, where `given` is what the next one gives. A handler may make calls of its
+   own meanwhile. */
 #define NEXT_WITHIN(given, call) \
     do { \
         const void *before = go_in(&next); \
+        const int64_t start = began; \
         given = call; \
+        began = start; \
         within = before; \
     } while (0)
 

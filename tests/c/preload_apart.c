@@ -51,6 +51,22 @@ static int hear_between(void)
     return failures > 0;
 }
 
+/* A handler writes what a read waits for, after a child has made a call. */
+static int hear_within(void)
+{
+    pid_t child, parent = getpid();
+    signal(SIGUSR1, tell);
+    child = fork();
+    if (child == 0) {
+        usleep(200000);
+        lseek(fd, 0, SEEK_SET);
+        kill(parent, SIGUSR1);
+        _exit(0);
+    }
+    CHECK(read(pipe_ends[0], bytes, 1) == 1 && bytes[0] == 's' && status_of(child) == 0);
+    return failures > 0;
+}
+
 static int start_timers(void)
 {
     struct itimerval late = {{0, 0}, {100, 0}}, never = {{0, 0}, {0, 0}};
@@ -215,6 +231,7 @@ int main(int count, char **words)
     if (fd < 0 || pipe(pipe_ends) != 0)
         return 96;
     if (strcmp(word, "signals") == 0) return hear_between();
+    if (strcmp(word, "a signal within a call") == 0) return hear_within();
     if (strcmp(word, "timers") == 0) return start_timers();
     if (strcmp(word, "cancelled too late") == 0) return cancel(seek_often, bytes);
     if (strcmp(word, "cancelled") == 0) return cancel(write_on, PTHREAD_CANCELED);

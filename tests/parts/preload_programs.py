@@ -231,6 +231,15 @@ def hears_between(program: str, library: Library) -> None:
     require("- p0 interrupt lseek" not in asked.past, "a call that does not wait is interrupted")
 
 
+def hears_within(library: Library) -> None:
+    """Natively a call of a handler does not change when the call began in which the handler came."""
+    command = [library.program("preload_apart"), "a signal within a call"]
+    given = started(library, command, ["FDREF_STARTS=1"])
+    same(Ran(0, b"", b""), given.ran)
+    starts = {line.split(" ")[2]: int(line.split(" ")[0].removeprefix("-@")) for line in given.log}
+    require(starts["read"] < starts["write"], "\n".join(given.log))
+
+
 def starts_timers(program: str, library: Library) -> None:
     """Timers that a program starts are noted."""
     same([], noted(library, "timers", ()).past)
@@ -515,6 +524,7 @@ def programs(program: str, library: Library) -> Iterator[Case]:
     for word in APART:
         yield f"{word}, {library.name}", partial(apart, program, library, word)
     yield f"other numbers, {library.name}", partial(numbers_others, library)
+    yield f"a signal within a call, {library.name}", partial(hears_within, library)
 
 
 def endings(program: str, library: Library) -> Iterator[Case]:
