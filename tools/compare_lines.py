@@ -16,6 +16,8 @@ from compare_runs import act_of, bytes_of_write, ends_of_closing, is_told_back, 
 
 SECONDS = 120
 ORDERS_MOST = 150
+# How many sizes of writes are tried in one run.
+SIZES_AT_ONCE = 16
 
 
 # ---- lines of a run
@@ -73,8 +75,9 @@ class Asked:
         self.driver = driver
         self.limits = limits
         self.is_text = is_text
-        self.has_same_room = self.room() == limits.capacity
-        self.counts_bytes = self.room(3_000, 3_000) == self.room()
+        room = self.room()
+        self.has_same_room = room == limits.capacity
+        self.counts_bytes = self.room(3_000, 3_000) == room
         self.pipe_buf = self.most_at_once() if self.has_same_room and self.counts_bytes else PIPE_BUF
 
     def run(self, words: list[str], script: bytes, who: str) -> bytes:
@@ -87,28 +90,30 @@ class Asked:
             raise CannotRun(f"{who} ends with {done.how()}: {done.stderr.decode('ascii', 'replace').strip()}")
         return done.stdout
 
-    def written(self, *sizes: int) -> list[str]:
-        """What writes of these sizes give that are made under nonblock to an empty pipe of the system."""
-        lines = [b"join", b"p0 mkfifo f", b"p0 open f r,nonblock", b"p0 open f w,nonblock"]
-        lines += [b"p0 write 1 61*%d" % size for size in sizes]
+    def fifo(self, calls: list[bytes]) -> list[str]:
+        """What these calls give on an empty FIFO of the system, of which 0 and 1 are the two ends, under nonblock."""
+        lines = [b"join", b"p0 mkfifo f", b"p0 open f r,nonblock", b"p0 open f w,nonblock", *calls]
         return [line.outcome for line in self.system(lines)[4:-1]]
 
     def room(self, *sizes: int) -> int:
         """How many bytes go into an empty pipe of the system by writes of these sizes and one of 65,536, or 65,536
         where they are more."""
-        return min(sum(map(moved, self.written(*sizes, TRANSFER_MAX))), TRANSFER_MAX)
+        outcomes = self.fifo([b"p0 write 1 61*%d" % size for size in (*sizes, TRANSFER_MAX)])
+        return min(sum(map(moved, outcomes)), TRANSFER_MAX)
 
     def most_at_once(self) -> int:
         """PIPE_BUF of the system, whose pipes have the room of fdref's: the largest write that is refused where there
         is room for one byte. It is the profile's where the system has less, which it may not."""
         least, most = PIPE_BUF, TRANSFER_MAX
-        size = PIPE_BUF + 1
         while least < most:
-            if self.written(self.limits.capacity - 1, size)[-1] == "error EAGAIN":
+            sizes = range(least + 1, most + 1, (most - least) // SIZES_AT_ONCE + 1)
+            tries = [[self.limits.capacity - 1, size] for size in sizes]
+            calls = [[*(b"p0 write 1 61*%d" % it for it in pair), b"p0 read 0 65536"] for pair in tries]
+            for size, outcome in zip(sizes, self.fifo([*itertools.chain(*calls)])[1::3], strict=True):
+                if outcome != "error EAGAIN":
+                    most = size - 1
+                    break
                 least = size
-            else:
-                most = size - 1
-            size = (least + most + 1) // 2
         return least
 
     def system(self, script: list[bytes]) -> list[Line]:

@@ -13,7 +13,7 @@ from support.running import CannotRun, Ran, run
 
 import compare_runs
 
-SECONDS = 60
+SECONDS = 120
 
 
 def compared(program: str, folder: str, way: str, script: str, words: Sequence[str] = ()) -> Ran:
