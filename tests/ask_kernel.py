@@ -6,7 +6,8 @@ usage: tests/ask_kernel.py [--program PATH] [--scripts N]
 The driver is compiled with every warning as an error. Then tools/compare.py runs random scripts and
 those of tests/rows that neither a number of records nor a bad line decides: no difference may be
 without a reason. Deadlocks have to end, a process that is ended from outside has to be told, and
-after a signal no process and no folder may be left. Last, each rule of
+after a signal no process and no folder may be left. What scripts print that stand in for wrong systems
+and drivers has to be told (tests/parts/asked_drivers.py). Last, each rule of
 tests/stand_ins/wrong_oracle.py has to be found out by random scripts, and so have two systems of
 tests/stand_ins/wrong_system.c.
 

@@ -9,9 +9,10 @@ pipes are compared.
 
 Each script is run by tools/ask_kernel.c, with a real process for each of its processes. The acts of
 the run that happened are then given to `fdref replay`, and the two are compared line by line; a `?`
-fits any number. At the end of each script acts are added that look at all that can be reached: flags,
-size and links, offset and contents of each descriptor and of each name. With --text scripts may have the
-comments and strings that `fdref replay --text` reads.
+fits any number. Where a call that waits can go on an act is added that looks whether it did. At the end
+of each script acts are added that look at all that can be reached: flags, size and links, offset and
+contents of each descriptor and of each name. With --text scripts may have the comments and strings that
+`fdref replay --text` reads.
 
 A difference is told with the lines before it and with its reason, if there is one: the page of the
 standard, and whether the system departs from it or the profile chose (own). Where system and fdref are

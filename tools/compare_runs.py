@@ -19,7 +19,7 @@ LINE = re.compile(rb"(?:-|0|[1-9][0-9]*) \S.* = \S.*")
 TOTALS = re.compile(rb"records [0-9]+ in (?:[0-9]+|\?) out [0-9]+")
 TOTALS_FORM = "`records R in I out O`"
 # The outcomes of acts that leave no record, and the calls that may wait.
-NO_RECORD = ("still", "refused NotHere", "refused Waiting")
+NO_RECORD = re.compile(r"still|refused [A-Z][A-Za-z]*")
 MAY_WAIT = ("open", "read", "write")
 # How much of a line is shown.
 SHOWN = 120
@@ -148,7 +148,7 @@ class Outcomes:
     def expected(self, line: Line) -> str:
         """What a line could say that does not say it, or nothing."""
         if line.place == "-":
-            return "" if line.outcome in NO_RECORD else f"{', '.join(NO_RECORD)}, or a place of a record"
+            return "" if NO_RECORD.fullmatch(line.outcome) else "still, refused with a name, or a place of a record"
         if int(line.place) != self.records:
             return f"it at place {self.records}"
         self.records += 1

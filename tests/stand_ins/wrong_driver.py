@@ -61,6 +61,7 @@ PRINTED: dict[str, Callable[[str], str]] = {
     "says-a-number": lambda text: text.replace(" close 0 = ok", " close 0 = 0"),
     "says-it-at-length": lambda text: text.replace("= x6162", "= x6162 (ab)"),
     "says-back-twice": lambda text: re.sub(r"(?m)^(\d+ p0 resume = .*)$", r"\1\n\1", text),
+    "says-no-place": lambda text: re.sub(r"(?m)^4 ", "- ", text),
     "loses-a-record": lambda text: re.sub(r"(?m)^\d+ p0 resume = .*\n", "", text),
     "loses-its-place": lambda text: re.sub(r"(?m)^4 ", "0 ", text),
     "says-it-otherwise": lambda text: text.replace(" = x6162", " = 61*1"),
