@@ -123,7 +123,7 @@ NO_RUNS = {
     "says-it-at-length": (ACTS, "gives `x6162 (ab)` for `p0 pread 0 0 9`; expected data"),
     "says-it-otherwise": (ACTS, "gives `61*1` for `p0 pread 0 0 9`; expected data"),
     "says-back-twice": (PIPED, "gives `1` for `p0 resume`; expected it at place 8"),
-    "says-no-place": (ACTS, "gives `ok` for `p0 unlink Z9`; expected still, refused with a name, or a place of a record"),
+    "says-no-place": (ACTS, "gives `ok` for `p0 unlink Z9`; expected still, refused with a name, or a place"),
     "loses-a-record": (PIPED, "gives `ok` for `p0 close 0`; expected it at place 7"),
     "loses-its-place": (ACTS, "; expected it at place 4"),
 }
