@@ -472,14 +472,14 @@ def cases(program: str) -> Iterator[Case]:
     yield "a pipe of 1,199 bytes", partial(prints, program, ROOMY, 0, ROOMY_LINES, "--pipe-capacity", "1199")
     yield "a pipe of 511 bytes", partial(fails, program, ROOMY, 2, "from 512 to 65536", "--pipe-capacity", "511")
     wrong = ROOMY.replace("70 80 p0 write 1 61*600 = 600", "70 80 p0 read 0 9 = x")
-    four = f"{PIPED}4 5 p0 fork = 1\n6 7 p1 attach = ok\n8 9 p0 setfl 1 -,nonblock = ok\n"
-    four += "10 11 p0 write 1 61*9000 = 4096\n12 20 p0 write 1 x61 = error EAGAIN\n"
-    four += "15 18 p1 write 1 x61 = error EAGAIN\n"
+    page = f"{PIPED}4 5 p0 fork = 1\n6 7 p1 attach = ok\n8 9 p0 setfl 1 -,nonblock = ok\n"
+    page += "10 11 p0 write 1 61*9000 = 4096\n12 20 p0 write 1 x61 = error EAGAIN\n"
+    page += "15 18 p1 write 1 x61 = error EAGAIN\n"
     hint = "perhaps: room of a pipe (own; page of write); "
     hint += "--pipe-capacity tells how many bytes a pipe of the system holds"
-    yield "a pipe of 4,096 bytes", partial(ends_with, program, four, 1, hint)
+    yield "a pipe of 4,096 bytes", partial(ends_with, program, page, 1, hint)
     room, end = ("--pipe-capacity", "4096"), "p0 write 1 x61 = error EAGAIN"
-    yield "a pipe of 4,096 bytes, as is told", partial(ends_with, program, four, 0, f"7 {end}", *room)
+    yield "a pipe of 4,096 bytes, as is told", partial(ends_with, program, page, 0, f"7 {end}", *room)
     yield "a larger pipe, in vain", partial(fails, program, wrong, 1, "no order explains it")
     yield "quiet", partial(prints, program, four, 1, f"history 2: {BAD_LINES}{totals}", "--quiet")
     yield from reason_cases(program)
