@@ -300,6 +300,8 @@ def is_fifo_for_both(it: Difference) -> bool:
 def is_count(it: Difference) -> bool:
     """More bytes than a call of the profile moves."""
     is_asked = it.words("read", "pread", "write", "pwrite") and it.gives("error EINVAL") and it.count() > TRANSFER_MAX
+    if is_asked and it.words("write") and it.at and it.at.pipe:
+        return may_give(it, it.system) if it.world.has_end(it.at.pipe, "r") else it.system == "error EPIPE"
     return is_asked and (it.succeeds() or it.system in ("error EFBIG", "error EPIPE", "error EAGAIN"))
 
 

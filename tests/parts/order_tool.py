@@ -123,6 +123,11 @@ CHOICES = [
         "room of a pipe that is counted in pages (own; page of write)",
     ),
 ]
+CLOSED = f"{PIPED}4 5 p0 close 0 = ok\n"
+CHOICES += [
+    (PIPED, "6 7 p0 write 1 61*65537 = 65537", "error EINVAL", COUNT),
+    (CLOSED, "6 7 p0 write 1 61*65537 = error EPIPE", "error EINVAL", COUNT),
+]
 LENGTH = "ftruncate past the size limit is EINVAL, not EFBIG (own; page of ftruncate)"
 CHOICES += [
     (FILED, f"4 5 p0 ftruncate 0 {2**40 + 1} = error EINVAL", "error EFBIG", LENGTH),
@@ -235,6 +240,14 @@ NO_LIMITS = [
     (FILED, "40 41 p0 dup 0 = error EAGAIN", "1"),
     (FILED, "40 41 p0 unlink abcdefghijklmn = error ENAMETOOLONG", "error ENOENT"),
 ]
+# Writes of more bytes than a call of the profile moves, to a pipe: what no room explains.
+MANY_BYTES = [
+    (HELD, "20 21 p0 write 1 61*65537 = 65536", "error EINVAL"),
+    (HELD, "20 21 p0 write 1 61*65537 = error EAGAIN", "error EINVAL"),
+    (HELD, "20 21 p0 write 1 61*65537 = error EPIPE", "error EINVAL"),
+    (HELD_NONBLOCK, "20 21 p0 write 1 61*65537 = 0", "error EINVAL"),
+    (CLOSED, "20 21 p0 write 1 61*65537 = 65537", "error EINVAL"),
+]
 # Calls of no bytes: errors that are not looked for, EAGAIN of an empty pipe, and a write to a pipe, after which nothing
 # is known.
 READ_ONLY, WRITE_ONLY = (f"{JOINED}2 3 p0 open a {mode},creat = 0\n" for mode in "rw")
@@ -333,7 +346,7 @@ def reason_cases(program: str) -> Iterator[Case]:
     for before, call, answer, end in [*UNCHOSEN, *((*it, WRITE) for it in UNROOMY)]:
         lines = f"  {call}\nfdref answers {answer}\n{end}"
         yield f"no choice: {call}", partial(ends_with, program, f"{before}{call}\n", 1, lines)
-    for before, call, answer in [*SOME_BYTES, *NO_LIMITS]:
+    for before, call, answer in [*SOME_BYTES, *NO_LIMITS, *MANY_BYTES]:
         yield f"no choice: {call}", partial(is_bare, program, f"{before}{call}\n", answer)
     further = f"{JOINED}2 3 p0 read 7 0 = x\n4 5 p0 close 7 = error EINVAL\n"
     yield "after a call of no bytes", partial(is_bare, program, further, "error EBADF")
