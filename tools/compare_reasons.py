@@ -406,13 +406,19 @@ def free_descriptors(it: Difference) -> list[int]:
     return [fd for fd in range(len(table) + 2) if fd not in table][:2]
 
 
+def gives_descriptors(it: Difference) -> bool:
+    """Whether a call gives descriptors that were free."""
+    form = plain_model.CALLS.get(it.act.word)
+    return form is not None and form.gives in (plain_model.DESCRIPTOR, plain_model.PAIR) and not it.words("dup2")
+
+
 def is_more_descriptors(it: Difference) -> bool:
     """A descriptor past those of the profile: of those that are free the lowest, or the one that dup2 is given."""
     if it.words("dup2"):
         return it.at is not None and it.act.fields[1] >= OPEN_MAX and it.system == str(it.act.fields[1])
     first, second = free_descriptors(it)
     given = [f"{first} {second}", f"{second} {first}"] if it.words("pipe") else [str(first)]
-    return it.words("open", "dup", "pipe") and it.gives("error EMFILE") and it.system in given
+    return gives_descriptors(it) and it.gives("error EMFILE") and it.system in given
 
 
 def is_fewer_descriptors(it: Difference) -> bool:
@@ -422,7 +428,7 @@ def is_fewer_descriptors(it: Difference) -> bool:
     if it.words("dup2"):
         return it.act.fields[1] >= OPEN_LEAST and it.system == "error EBADF"
     is_past = free_descriptors(it)[1 if it.words("pipe") else 0] >= OPEN_LEAST
-    return it.words("open", "dup", "pipe") and it.system == "error EMFILE" and is_past
+    return gives_descriptors(it) and it.system == "error EMFILE" and is_past
 
 
 def is_larger_file(it: Difference) -> bool:

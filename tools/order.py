@@ -16,7 +16,7 @@ each resume.
 In fdref a pipe has room for 1,024 bytes, or for as many as --pipe-capacity says. Where no order explains a history with
 a pipe or FIFO, one is searched for with pipes of 65,536 bytes, and run through `fdref replay --pipe-capacity 65536`. If
 there is one the history has a reason, `room of a pipe (own)`: the standard leaves it open. So it does which end of a
-pipe has the lower number. Where that is the writing one, dup, dup2 and close are added, and the ends change places.
+pipe has the lower number. Where that is the writing one, dup2 and close are added, and the ends change places.
 
 So has a history in which no calls overlap, where each call that fdref answers otherwise has one of tools/compare.py
 that is its own choice. After the first that succeeds in one of the two alone, the rest is not compared; that is told.
@@ -69,7 +69,7 @@ from compare_reasons import OWN, reason_or_limit, told_reason
 # The reason of a history that only larger pipes explain.
 BY_ROOM = "reason: room of a pipe (own; page of write)"
 # What is told of a history in which the writing end of a pipe has the lower number.
-TURNED = "where the ends of a pipe change places, by dup, dup2 and close"
+TURNED = "where the ends of a pipe change places, by dup2 and close"
 BY_TURN = "reason: which end of a pipe has the lower number (own; page of pipe)"
 NOT_BY_TURN = f"that is told {TURNED}"
 CAPACITY = "; --pipe-capacity tells how many bytes a pipe of the system holds"

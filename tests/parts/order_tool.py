@@ -189,8 +189,8 @@ LESS_ROOM = [
     (HELD, "20 - p0 write 1 61*20 = parked ?", "20"),
 ]
 # Limits of a system that the standard leaves open.
-TWENTY = FILED + "".join(f"{fd + 4} {fd + 4} p0 dup 0 = {fd}\n" for fd in range(1, 20))
-ALL = FILED + "".join(f"{fd + 4} {fd + 4} p0 dup 0 = {fd}\n" for fd in range(1, 32))
+TWENTY = FILED + "".join(f"{fd + 4} {fd + 4} p0 dup2 0 {fd} = {fd}\n" for fd in range(1, 20))
+ALL = FILED + "".join(f"{fd + 4} {fd + 4} p0 dup2 0 {fd} = {fd}\n" for fd in range(1, 32))
 FAR = f"{FILED}4 5 p0 lseek 0 {2**40} set = {2**40}\n"
 MORE = "more than 32 descriptors (own; XBD limits.h, OPEN_MAX)"
 FEWER = "fewer than 32 descriptors (own; XBD limits.h, _POSIX_OPEN_MAX)"
@@ -201,10 +201,10 @@ MANY = "too many files open in the system (own; pages of open and pipe)"
 LONG = "names of at most 64 bytes that are too long (own; XBD limits.h, _POSIX_NAME_MAX)"
 LIMITS = [
     (FILED, "40 41 p0 dup2 0 40 = 40", "error EBADF", MORE),
-    (ALL, "40 41 p0 dup 0 = 32", "error EMFILE", MORE),
+    (ALL, "40 41 p0 open a r = 32", "error EMFILE", MORE),
     (ALL, "40 41 p0 open b rw,creat = 32", "error EMFILE", MORE),
     (ALL, "40 41 p0 pipe = 32 33", "error EMFILE", MORE),
-    (TWENTY, "40 41 p0 dup 0 = error EMFILE", "20", FEWER),
+    (TWENTY, "40 41 p0 open a r = error EMFILE", "20", FEWER),
     (TWENTY.rpartition("23 23")[0], "40 41 p0 pipe = error EMFILE", "19 20", FEWER),
     (FILED, "40 41 p0 dup2 0 20 = error EBADF", "20", FEWER),
     (FAR, "40 41 p0 write 0 x61 = 1", "error EFBIG", LARGER),
@@ -226,9 +226,9 @@ NO_LIMITS = [
     (FILED, "40 41 p0 dup2 0 19 = error EBADF", "19"),
     (FILED, "40 41 p0 dup2 0 40 = 41", "error EBADF"),
     (FILED, "40 41 p0 dup2 1 40 = 40", "error EBADF"),
-    (ALL, "40 41 p0 dup 0 = 33", "error EMFILE"),
+    (ALL, "40 41 p0 open a r = 33", "error EMFILE"),
     (ALL, "40 41 p0 pipe = 33 34", "error EMFILE"),
-    (TWENTY.rpartition("23 23")[0], "40 41 p0 dup 0 = error EMFILE", "19"),
+    (TWENTY.rpartition("23 23")[0], "40 41 p0 open a r = error EMFILE", "19"),
     (FAR, "40 41 p0 write 0 x6161 = 1", "error EFBIG"),
     (FILED, f"40 41 p0 ftruncate 0 {2**31 - 1} = error EFBIG", "ok"),
     (FILED, f"40 41 p0 pwrite 0 {2**31 - 2} x61 = error EFBIG", "1"),
@@ -236,8 +236,8 @@ NO_LIMITS = [
     (FILED, "40 41 p0 open a rw,creat = error ENOSPC", "1"),
     (FILED, "40 41 p0 ftruncate 0 9 = error ENOSPC", "ok"),
     (PIPED, "40 41 p0 write 1 x61 = error ENOSPC", "1"),
-    (FILED, "40 41 p0 dup 0 = error ENFILE", "1"),
-    (FILED, "40 41 p0 dup 0 = error EAGAIN", "1"),
+    (FILED, "40 41 p0 dup2 0 1 = error ENFILE", "1"),
+    (FILED, "40 41 p0 mkfifo b = error EAGAIN", "ok"),
     (FILED, "40 41 p0 unlink abcdefghijklmn = error ENAMETOOLONG", "error ENOENT"),
 ]
 # Writes of more bytes than a call of the profile moves, to a pipe: what no room explains.
@@ -292,17 +292,17 @@ OVERLAPPING = [
 # Pipes whose writing end has the lower number: what is told of one, and histories with their status and what is told
 # last.
 TURNED = f"{JOINED}2 3 p0 pipe = 1 0\n"
-TURNED_LINES = """an order explains it where the ends of a pipe change places, by dup, dup2 and close
+TURNED_LINES = """an order explains it where the ends of a pipe change places, by dup2 and close
   p0 join = 0
   p0 pipe = 0 1
-  p0 dup 0 = 2
+  p0 dup2 0 2 = 2
   p0 dup2 1 0 = 0
   p0 dup2 2 1 = 1
   p0 close 2 = ok
 reason: which end of a pipe has the lower number (own; page of pipe)
 """
 BY_TURN = TURNED_LINES.splitlines()[-1]
-NOT_BY_TURN = "that is told where the ends of a pipe change places, by dup, dup2 and close"
+NOT_BY_TURN = "that is told where the ends of a pipe change places, by dup2 and close"
 PASSED_ON = f"{TURNED}4 5 p0 fork = 1\n6 7 p1 attach = ok\n8 15 p1 read 1 5 = x61\n10 11 p0 write 0 x61 = 1\n"
 TURNS = [
     (f"{PASSED_ON}16 17 p1 close 0 = ok\n18 19 p1 pipe = 2 0\n20 21 p1 write 0 x62 = 1\n", 0, BY_TURN),

@@ -1,8 +1,7 @@
 """Pipes whose writing end a system gives the lower number.
 
 The page of pipe, by XSH 2.14, asks for the two lowest numbers, and not for their order. In fdref the reading end has
-the lower one. There the ends change places after such a pipe, by calls that nobody else sees: a dup, two dup2 and a
-close.
+the lower one. There the ends change places after such a pipe, by calls that nobody else sees: three dup2 and a close.
 """
 
 from collections.abc import Sequence
@@ -37,23 +36,23 @@ def turned(history: Sequence[Noted]) -> list[Noted] | None:
         if free is None:
             return None
         found.append(noted._replace(outcome=f"{writing} {reading}"))
-        calls = [("dup", writing), ("dup2", reading, writing), ("dup2", free, reading), ("close", free)]
-        found += [exchanging(noted, words, free) for words in calls]
+        moves = [(writing, free), (reading, writing), (free, reading)]
+        found += [exchanging(noted, "dup2", move, str(move[1])) for move in moves]
+        found.append(exchanging(noted, "close", (free,), "ok"))
     return found
 
 
-def exchanging(pipe: Noted, words: Sequence[str | int], free: int) -> Noted:
+def exchanging(pipe: Noted, word: str, fields: tuple[int, ...], outcome: str) -> Noted:
     """A call that is made when a pipe comes back."""
-    word, *fields = words
-    outcome = {"dup": free, "dup2": fields[-1], "close": "ok"}[str(word)]
-    act = plain_model.Act(pipe.process, str(word), tuple(fields))
-    return Noted(pipe.start if pipe.end is None else pipe.end, pipe.end, act, str(outcome))
+    assert pipe.end is not None
+    return Noted(pipe.end, pipe.end, plain_model.Act(pipe.process, word, fields), outcome)
 
 
 def change(table: set[int], noted: Noted, tables: dict[int, set[int]]) -> None:
     """Notes which descriptors a process has after a call."""
     given = [int(word) for word in noted.outcome.split(" ") if word.isdigit()]
-    if noted.act.word in ("open", "dup", "dup2", "pipe"):
+    form = plain_model.CALLS.get(noted.act.word)
+    if form and form.gives in (plain_model.DESCRIPTOR, plain_model.PAIR):
         table.update(given)
     elif noted.act.word == "close" and noted.outcome == "ok":
         table.discard(noted.act.fields[0])
