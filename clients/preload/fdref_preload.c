@@ -236,7 +236,7 @@ static int64_t gone_to_lowest(const struct going *it, int64_t given)
         if (is_known) \
             return (type)going.done; \
         if (going.way == NOTE) \
-            return (type)after(&going, BEHIND(next words)); \
+            return (type)let_in(after(&going, BEHIND(next words))); \
         return (type)after(&going, next words); \
     }
 
@@ -423,7 +423,7 @@ static int close_between(unsigned first, unsigned last, int flags, closes_range 
     if (is_off() || is_behind || first > last)
         return next(first, last, flags);
     if (how == NATIVE)
-        return note_closed(first, last, flags, (int)BEHIND(close_others(first, last, flags, next)));
+        return (int)let_in(note_closed(first, last, flags, (int)BEHIND(close_others(first, last, flags, next))));
     return close_others(close_low(first, last, (flags & KEEPS_TILL_EXEC) != 0), last, flags, next);
 }
 
@@ -927,7 +927,9 @@ int dup3(int fd, int to, int flags)
         return how == ASKED ? (int)fails(EINVAL) : next(fd, to, flags);
     if (is_duplicated_to(&going, fd, to, flags))
         return (int)going.done;
-    return (int)gone_to(&going, going.way == NOTE ? BEHIND(next(fd, to, flags)) : next(fd, to, flags));
+    if (going.way == NOTE)
+        return (int)let_in(gone_to(&going, BEHIND(next(fd, to, flags))));
+    return (int)gone_to(&going, next(fd, to, flags));
 }
 
 /* The number to which F_DUPFD leads, where it can: an EBADF is asked with one, too. */
@@ -1049,7 +1051,7 @@ static int64_t gone_to_pipe(const struct going *it, int ends[2], const int made[
         if (is_pipe_made(&going, both, flags)) \
             done = going.done; \
         else if (going.way == NOTE) \
-            done = gone_to_pipe(&going, both, made, flags, BEHIND(next words)); \
+            done = let_in(gone_to_pipe(&going, both, made, flags, BEHIND(next words))); \
         else \
             done = gone_to_pipe(&going, both, made, flags, next words); \
         if (done == 0) \

@@ -69,8 +69,8 @@ static int seen(int fd, int done, mode_t mode, uint64_t size, uint32_t links)
         if (way == PASS) \
             return next words; \
         done = (int)BEHIND(next words); \
-        seen(fd, done, done < 0 ? 0 : to->st_mode, done < 0 ? 0 : (uint64_t)to->st_size, \
-             done < 0 ? 0 : (uint32_t)to->st_nlink); \
+        let_in(seen(fd, done, done < 0 ? 0 : to->st_mode, done < 0 ? 0 : (uint64_t)to->st_size, \
+                    done < 0 ? 0 : (uint32_t)to->st_nlink)); \
         return done; \
     }
 
@@ -197,7 +197,7 @@ static int64_t gone_by(const struct going *it, int command, int argument, int64_
         if (is_controlled(&going, fd, command, number)) \
             return (int)going.done; \
         if (going.way == NOTE && is_commanded(command)) \
-            return (int)gone_by(&going, command, number, BEHIND(next(fd, command, argument))); \
+            return (int)let_in(gone_by(&going, command, number, BEHIND(next(fd, command, argument)))); \
         return (int)gone_by(&going, command, number, next(fd, command, argument)); \
     }
 
@@ -236,7 +236,7 @@ int ioctl(int fd, int command, ...)
         return (int)set_nonblock(fd, *(const int *)argument);
     if (way == NOTE && command == FIONBIO) {
         flags = system_fcntl(fd, F_GETFL, 0);
-        return (int)nonblock_noted(fd, *(const int *)argument, flags, BEHIND(next(fd, command, argument)));
+        return (int)let_in(nonblock_noted(fd, *(const int *)argument, flags, BEHIND(next(fd, command, argument))));
     }
     if (way != ASK)
         return next(fd, command, argument);
@@ -314,8 +314,10 @@ static int64_t fork_asked(pid_t (*next)(void))
 
 static pid_t fork_natively(pid_t (*next)(void))
 {
+    struct quiet before = be_quiet();
     uint32_t number;
     pid_t made;
+    int error;
     begin_call();
     number = __atomic_fetch_add(&shared->next_number, 1, __ATOMIC_SEQ_CST);
     made = next();
@@ -326,7 +328,12 @@ static pid_t fork_natively(pid_t (*next)(void))
     }
     if (made < 0)
         __atomic_fetch_sub(&shared->next_number, 1, __ATOMIC_SEQ_CST);
-    return made == 0 ? 0 : (pid_t)ALONE(note(fdref_act_fork(), fdref_number(number), made));
+    if (made != 0)
+        made = (pid_t)ALONE(note(fdref_act_fork(), fdref_number(number), made));
+    error = errno;
+    end_quiet(before);
+    errno = error;
+    return made;
 }
 
 #define FORKS(name) \

@@ -100,14 +100,20 @@ static void go_behind(void)
 
 static int64_t back(int64_t value)
 {
-    int error = errno;
     is_behind = 0;
-    end_quiet(quiet_behind);
-    errno = error;
     return value;
 }
 
 #define BEHIND(call) (go_behind(), back(call))
+
+/* Hands on a value, once it is logged. Signals come again. */
+static int64_t let_in(int64_t value)
+{
+    int error = errno;
+    end_quiet(quiet_behind);
+    errno = error;
+    return value;
+}
 
 /* The same of one that may wait: the function, so that what its library calls is told from what a handler does. */
 static __thread const void *within;
@@ -377,22 +383,21 @@ static int64_t look_by_name(const char *name, struct file *file)
 
 /* ---- beginning and ending */
 
-/* The exit is recorded when this returns. Where another thread waits in a call it comes with the end of the program. */
+/* The exit is recorded when this returns, and no handler makes a call any more. Where another thread waits in a call it
+   comes with the end of the program. */
 static void end(void)
 {
-    struct quiet before;
     if (own_pid != getpid())
         return;
     note_cut();
     if (how != ASKED || (is_held && pthread_equal(owner, pthread_self())) || pthread_mutex_trylock(&mutex) != 0)
         return;
-    before = be_quiet();
+    be_quiet();
     how = ENDED;
     ender = pthread_self();
     fdref_exit(process);
     process = NULL;
     pthread_mutex_unlock(&mutex);
-    end_quiet(before);
 }
 
 static void end_at_exit(void *unused)
