@@ -186,7 +186,8 @@ def struck_acts_add_up(bench: Bench) -> None:
     ran = bench.summed([struck_of(bench, 20, 1, 1), struck_of(bench, 10, 8, 0)])
     acts = "; ".join(f"p0 close {number}" for number in range(10, 18))
     wanted = ["2 scripts, 10 calls, 9 differences", "       9 more than 8 links (own; page of link)"]
-    wanted += ["       0 without a reason", f"       9 acts were struck and not compared: {acts}; .."]
+    wanted += ["       0 without a reason", "       1 not compared"]
+    wanted += [f"       9 acts were struck and not compared: {acts}; .."]
     same((3, wanted), (ran.status, ran.stdout.decode().splitlines()[3:]))
 
 
