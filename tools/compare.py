@@ -49,7 +49,7 @@ from support.summaries import Counts, add_summary
 from support.texts import several
 
 from compare_lines import Asked, first_unfit, in_other_order, is_at_once, moved
-from compare_reasons import OWN, REASONS, Difference, Reason, follows_append, reason_of, told_reason
+from compare_reasons import OWN, REASONS, Difference, Reason, follows_append, is_room, told_reason
 from compare_runs import act_of, check_alike, ends_of_closing, is_told_back, places_of_script
 from compare_walks import CLASSES, class_of, random_lines, with_looks
 
@@ -189,9 +189,11 @@ AT_ONCE = Reason("PIPE_BUF is more than 512 bytes", OWN, "pages of limits.h and 
 
 
 def reason_in(asked: Asked, difference: Difference) -> Reason | None:
-    """The first reason that fits a difference."""
+    """The first reason that fits a difference. Room of a pipe is none where pipes were seen to have the same."""
     is_measured = AT_ONCE.fits(difference) and is_at_once(asked, difference.lines, difference.place)
-    return AT_ONCE if is_measured else reason_of(difference)
+    is_same = asked.has_same_room and asked.counts_bytes
+    known = [it for it in REASONS if not (is_same and it.fits is is_room)]
+    return AT_ONCE if is_measured else next((it for it in known if it.fits(difference)), None)
 
 
 # ---- telling

@@ -47,7 +47,9 @@ def is_past_size(it: Difference) -> bool:
 # Scripts that are compared do not meet these: one process acts at a time there, and the system has a limit of its own.
 OF_TIME = Reason("what is read of a pipe depends on who comes first", OWN, "page of read", is_of_time)
 SIGNALS = "a signal ends a call (EINTR), and signals are outside fdref"
-EINTR = Reason(SIGNALS, OWN, "XSH 2.4.4", lambda it: it.system == "error EINTR")
+# The calls that a signal may end, as their pages say.
+MAY_BE_ENDED = ("open", "close", "read", "write", "pread", "pwrite", "dup2", "ftruncate")
+EINTR = Reason(SIGNALS, OWN, "XSH 2.4.4", lambda it: it.system == "error EINTR" and it.words(*MAY_BE_ENDED))
 MORE_REASONS = [
     EINTR,
     OF_TIME,

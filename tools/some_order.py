@@ -24,7 +24,7 @@ from support.replaying import verified
 from support.runs import Line
 from support.searching import Search, Step, TooLong
 
-from partings import EINTR, OF_TIME, Compared, Finding
+from partings import EINTR, MAY_BE_ENDED, OF_TIME, Compared, Finding
 from thread_order import ThreadSearch
 
 # A search is given up after so many states, or after fewer, where these have many bytes; and after so long.
@@ -199,7 +199,7 @@ class Builder:
         found: list[Noted] = []
         for at, line in enumerate(lines):
             start = self.start_of(line, start)
-            if line.outcome != "error EINTR":
+            if line.outcome != "error EINTR" or word_of(line) not in MAY_BE_ENDED:
                 outcome = UNKNOWN if id(line) in self.unknown else line.outcome
                 found.append(Noted(start, self.after(line) - 1, read_act(line.act), outcome))
             start = start if is_piece(lines[at : at + 2]) else self.after(line)

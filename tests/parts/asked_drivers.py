@@ -68,6 +68,21 @@ def sleep_is_told(program: str, folder: str, way: str, script: str, page: str) -
 ENDED = f"{FORKED}p1 close 1\np1 read 0 1\n"
 
 
+# ---- pipes that take less than they have room for
+
+TAKE_LESS = {
+    "takes-half": "join\np0 pipe\np0 setfl 1 -,nonblock\np0 write 1 61*1000\n",
+    "waits-at-an-empty-pipe": "join\np0 pipe\np0 write 1 61*600\n",
+}
+
+
+def less_is_told(program: str, folder: str, way: str, script: str) -> None:
+    """A pipe that was seen to have as much room as fdref's has no reason to take less."""
+    done = compared(program, folder, way, script)
+    reasons = [line for line in done.stdout.decode().splitlines() if line.startswith("reason: ")]
+    same((1, ["reason: none"]), (done.status, reasons))
+
+
 # ---- a larger PIPE_BUF
 
 # What a system with pipes of 4,096 bytes and such a PIPE_BUF does otherwise, and is right in.
@@ -166,6 +181,8 @@ def cases(program: str, folder: str) -> Iterator[Case]:
         yield way, partial(sleep_is_told, program, folder, way, script, page)
     way = "last-writer-wakes-nobody"
     yield f"{way}, in the end", partial(sleep_is_told, program, folder, way, ENDED, SLEEPS[way][1])
+    for way, script in TAKE_LESS.items():
+        yield way, partial(less_is_told, program, folder, way, script)
     for way in ("larger-pipe-buf", "larger-pipe-buf-unseen"):
         for script, act in AT_ONCE.items():
             yield f"{way} {script!r}", partial(is_by_pipe_buf, program, folder, way, script, act)

@@ -194,6 +194,16 @@ LOGS = [
         fdref_ends=KILLED,
     ),
     Logs(
+        "a signal that no page lets end a call",
+        "p0 open a rw,creat = 0; p0 lseek 0 0 set = error EINTR; p0 unlink a = error EINTR; p0 ftruncate 0 1 = error EINTR",
+        "0 p0 join = 0; 1 p0 open a rw,creat = 0; 2 p0 lseek 0 0 set = 0; 3 p0 unlink a = ok; 4 p0 ftruncate 0 1 = ok",
+        [
+            "p0 lseek 0 0 set: error EINTR, 0: none",
+            "p0 unlink a: error EINTR, ok: none",
+            f"p0 ftruncate 0 1: error EINTR, ok: {EINTR}",
+        ],
+    ),
+    Logs(
         "flags and names that are the same",
         "p0 open a rw,creat = 0; p0 setfl 0 rw,append = ok; p0 getfl 0 = 35; p0 rename a b = ok; "
         "p0 rename a b = error ENOENT; p0 setfl 7 r,nonblock = error EBADF; p0 getfl -1 = error EBADF",

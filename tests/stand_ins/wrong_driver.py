@@ -68,6 +68,12 @@ PRINTED: dict[str, Callable[[str], str]] = {
     "prints-no-closing": lambda text: text.replace("2 p1 exit = ok\n3", "2").replace("records 4", "records 3"),
 }
 
+# Systems whose pipes take less than they have room for: what they answer otherwise.
+TAKE_LESS: dict[str, Callable[[str], str]] = {
+    "takes-half": lambda text: text.replace(" 61*1000 = 1000", " 61*1000 = 512"),
+    "waits-at-an-empty-pipe": lambda text: text.replace(" 61*600 = 600", " 61*600 = parked 0"),
+}
+
 
 # Systems that are right, with pipes of 4,096 bytes and a larger PIPE_BUF: from how many bytes on a write that waits is
 # told as one of which it is not seen how much went in.
@@ -87,13 +93,13 @@ def has_larger_pipe_buf(unseen_from: int) -> None:
 def printed(way: str, script: bytes, limits: plain_model.Limits = plain_model.DEFAULTS) -> bytes:
     """What a driver prints for a script that is wrong in a way, or not."""
     lines = settled_driver.lines_of(LEFT_OUT.get(way, bytes)(script), limits)
-    return PRINTED.get(way, str)("".join(f"{line}\n" for line in lines)).encode()
+    return {**PRINTED, **TAKE_LESS}.get(way, str)("".join(f"{line}\n" for line in lines)).encode()
 
 
 def main(words: list[str]) -> int:
     """Prints what is asked for: the exit status."""
     if words == ["--list"]:
-        print("\n".join([*SLEEPS, *LEFT_OUT, *PRINTED, *UNSEEN_FROM]))
+        print("\n".join([*SLEEPS, *LEFT_OUT, *PRINTED, *TAKE_LESS, *UNSEEN_FROM]))
         return 0
     (way,) = words
     if way in SLEEPS:
