@@ -10,6 +10,7 @@ from collections.abc import Callable, Iterable, Iterator, Sequence
 from typing import NamedTuple
 
 from support import plain_model
+from support.commands import ChosenLimits
 from support.histories import UNKNOWN, WAITS, Noted
 from support.ordering import ROOMY, Explained, explain
 from support.plain_model import Description, Limits, Process, Reply, World
@@ -18,7 +19,7 @@ from support.runs import Line, Settled, line_of
 from support.searching import FOREVER, Step
 
 from compare_lines import act_of
-from compare_reasons import APPENDED, Difference, Reason, is_append, is_paged_room, is_room, reason_of
+from compare_reasons import APPENDED, Difference, Reason, follows_append, is_append, is_paged_room, is_room, reason_of
 
 
 # How a reason is looked for.
@@ -157,9 +158,11 @@ def apart_at(
     lines = [Line(str(at), plain_model.act_text(noted.act), noted.outcome) for at, noted in enumerate(history)]
     world = Beside(history[:place], limits).run.world
     difference = Difference(place, lines, lines[place], lines[place]._replace(outcome=answer), world)
+    difference.has_same_room = isinstance(limits, ChosenLimits)
     reason = why(difference)
-    if reason is None and is_by_append(history[: place + 1], limits, known - {place}):
-        reason = APPENDED
+    # what the fstat after such a pwrite tells has to follow from all of them
+    if reason is None or (reason is APPENDED and follows_append(difference)):
+        reason = APPENDED if is_by_append(history[: place + 1], limits, known - {place}) else None
     return Apart(place, history[place], answer, limits, reason, difference.is_settled())
 
 
@@ -192,8 +195,9 @@ def is_of_room(reason: Reason | None) -> bool:
 
 
 def wants_room(found: Iterable[Apart], limits: Limits) -> bool:
-    """Whether a call is answered otherwise since pipes have too little room, and there are larger ones."""
-    return limits.capacity < ROOMY.capacity and any(is_of_room(it.reason) for it in found)
+    """Whether a call is answered otherwise since pipes have too little room, and there may be larger ones."""
+    may_be_larger = not isinstance(limits, ChosenLimits) and limits.capacity < ROOMY.capacity
+    return may_be_larger and any(is_of_room(it.reason) for it in found)
 
 
 def possible(history: Sequence[Noted], limits: Limits, why: Why = reason_of) -> Apart | None:

@@ -31,6 +31,7 @@ from support.plain_model import Limits
 from support.runs import Line
 
 import past
+from handlers import signal_named
 from partings import Finding, Parting, names_behind
 from past import Past
 from reach import Reach, behind
@@ -53,9 +54,9 @@ OF_A_PATH = re.compile(
     r"|l?(?:set|remove)xattr"
 )
 # Kinds that lead a program another way at most.
-ASIDE = (past.VFORK, past.INTERRUPT, past.CUT, past.TIMER)
+ASIDE = (past.VFORK, past.INTERRUPT, past.CUT, past.TIMER, past.HANDLER, past.MAKES)
 # Kinds by which a program may go another way, beside what tells it something else.
-LEADS = (past.SIGNAL, past.LIMIT, past.INTERRUPT)
+LEADS = (past.SIGNAL, past.LIMIT, past.INTERRUPT, past.MAKES)
 # What makes a name that is another one in each run.
 MAKES_A_NAME = re.compile(r"mko?stemps?(?:64)?|mkdtemp|mktemp|tempnam")
 # Paths by which a descriptor, or a folder of a process, has another name.
@@ -70,6 +71,9 @@ NOTHING, ITS_OWN, ALL = "nothing", "its own", "all"
 MODES = "modes, owners and times, which are fdref's own"
 NUMBERS = "the number of a process, an address, the time or a random number"
 TIMERS = "a timer, since calls take longer with fdref"
+HANDLED = "a handler of {}, which comes at another time with fdref,"
+KILLED = "{}, which ended this process, perhaps before or after more of its calls in the other run"
+LOOKED = f"an answer of stat, access or truncate, of which no line tells, or {MODES}"
 VARIABLES = "the environment, in which judge.py sets variables of its own (FDREF_..)"
 OF_RIGHTS = ("error EACCES", "error EPERM")
 # The name of the variables, as data of a write may have it.
@@ -115,7 +119,7 @@ def changes_nothing(one: Past) -> bool:
 
 def takes_number(one: Past) -> bool:
     """Whether it may natively take a number that is free with fdref."""
-    return one.kind in (past.STREAM, past.MADE) or bool(past.TAKES.fullmatch(one.call))
+    return one.kind in (past.STREAM, past.MADE, past.MAKES) or bool(past.TAKES.fullmatch(one.call))
 
 
 def tells_number(parting: Parting) -> bool:
@@ -155,8 +159,8 @@ def answered(parting: Parting, records: Sequence[Line]) -> int:
 
 
 class Causes:
-    """What is told beside the calls, of which some may be why an answer differs. What the system alone has told is of
-    processes by their numbers there."""
+    """What is told beside the calls, of which some may be why an answer differs. What was noted natively is of the
+    processes that have these numbers there. At some places the library looked at names, of which no line tells."""
 
     def __init__(
         self,
@@ -165,16 +169,20 @@ class Causes:
         records: list[Line],
         limits: Limits,
         folder: str = "",
-        made: Sequence[Past] = (),
+        native: Sequence[Past] = (),
         system: Log | None = None,
         is_killed: bool = False,
+        noted: Sequence[Past] = (),
+        looks: Sequence[int] = (),
     ) -> None:
         self.every = every
         self.records = records
         self.folder = folder
         self.is_killed = is_killed
-        numbers = {number: way for way, number in system.numbers.items()} if system else {}
-        self.made = [(numbers[it.number], it) for it in made if it.kind == past.MADE and it.number in numbers]
+        self.native, self.noted, self.looks = native, noted, looks
+        self.numbers = system.numbers if system else {}
+        numbers = {number: way for way, number in self.numbers.items()}
+        self.made = [(numbers[it.number], it) for it in native if it.kind == past.MADE and it.number in numbers]
         self.places = {id(it): answered(it, records) for it in partings}
         self.reached: set[int] = set()
         self.things: dict[int, frozenset[object]] = {}
@@ -206,7 +214,8 @@ class Causes:
         process = world.processes.get(one.number)
         fd = one.descriptor()
         description = process.table.get(int(fd)) if process and fd else None
-        names = names_behind(world, one.number, fd) if fd else {one.name.rpartition("/")[2]} - {""}
+        has_name = one.kind not in (past.SIGNAL, past.HANDLER)
+        names = names_behind(world, one.number, fd) if fd else {one.name.rpartition("/")[2] * has_name} - {""}
         known = [world.names[name] for name in map(str.encode, names) if name in world.names]
         things = frozenset(behind(description) if description else known)
         self.every[at] = one._replace(names=frozenset(names), things=things)
@@ -280,6 +289,20 @@ class Causes:
         is_led = os.path.normpath(one.name) != "." and leads_to_files(one.name, self.folder)
         return is_path and (is_file or is_led or bool(MAKES_A_NAME.fullmatch(one.call)))
 
+    def killed(self, parting: Parting) -> str:
+        """The signal that ended a process which made more calls in one run, or nothing."""
+        if parting.system and parting.fdref:
+            return ""
+        number = self.numbers.get(parting.way, -1)
+        found = past.killed(self.noted, parting.number) or past.killed(self.native, number)
+        return KILLED.format(signal_named(int(found))) if found else ""
+
+    def handled(self, place: int) -> str:
+        """The handlers that were set before a place, which may run at other times, or nothing."""
+        before = [it for it in self.every if it.kind == past.HANDLER and it.place < place and it.name != "none"]
+        numbers = {int(it.call) for it in before}
+        return HANDLED.format(" or ".join(map(signal_named, sorted(numbers)))) if numbers else ""
+
     def other(self, parting: Parting, is_timed: bool) -> str:
         """What a parting may be by that is no call past fdref, or nothing: an owner's right, or what a program was told
         that fdref has no part in, after which it makes another call. Whether a timer ended a run is told."""
@@ -293,5 +316,12 @@ class Causes:
         before = [it for it in self.every if it.place < parting.place]
         if is_timed or any(it.kind == past.TIMER for it in before):
             return TIMERS
-        is_asked = parting.is_asked_otherwise()
+        handled = self.handled(parting.place)
+        return " or ".join([handled] * bool(handled) + [self.told_to(parting, before)])
+
+    def told_to(self, parting: Parting, before: list[Past]) -> str:
+        """What a program may have been told by which it makes another call."""
+        is_asked, has_looked = parting.is_asked_otherwise(), any(place < parting.place for place in self.looks)
+        if has_looked:
+            return f"{NUMBERS}, or {LOOKED}" if is_asked else LOOKED
         return MODES if not is_asked and past.has_looked(before, self.records[: parting.place]) else NUMBERS

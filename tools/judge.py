@@ -11,19 +11,20 @@ On a built tree one command judges a program of your own, in a few seconds:
 
 Where only an unproved fdref is built that one is taken, which is told.
 
-The program is run twice, each time in an empty folder and with 32 descriptors at most: once with a live
-server that answers its calls in place of the system, and once natively. A library that is loaded before
-the C library (the shim, clients/preload) makes its calls, so it need not be changed. The shim is
-compiled for this run, by $CC or cc, unless --shim names a built one. A statically linked program does
-not load it, nor one that is given another LD_PRELOAD, as by `env LD_PRELOAD=..`; one that stands before
-this command is loaded beside it. System calls that are made in assembler are not seen at all, and may
-give a difference without a reason. What fdref leaves out goes past it to the system, and is not judged:
-paths with a slash, folders, streams of stdio, other programs. The shim notes what it sees of that, and it
-is told by kinds, each with the first of it; --keep has all. A difference after it is told to may follow
-from it: from what has the same name, if any, else from the last; one of what is written to a stream, from
-the first. Under --strict it ends the program. Calls that the C library makes inside are not seen: so
-printf is lost where dup2 puts a file of fdref at descriptor 1. Of threads one makes a call at a time, so
-where one waits the others do, which is told at once on standard error.
+The program is run twice, each time in an empty folder and with 32 descriptors at most: once with a live server
+that answers its calls in place of the system, and once natively. A library that is loaded before the C library
+(the shim, clients/preload) makes its calls, so it need not be changed. The shim is compiled for this run, by
+$CC or cc, unless --shim names a built one. A statically linked program does not load it, nor one that is given
+another LD_PRELOAD, as by `env LD_PRELOAD=..`. What --preload names is loaded beside it, as a C library under
+test, and so is what LD_PRELOAD names before this command: both are for the program alone, and judge.py goes on
+without them. System calls that are made in assembler are not seen at all, and may give a difference without a
+reason. What fdref leaves out goes past it to the system, and is not judged: paths with a slash, folders,
+streams of stdio, other programs. The shim notes what it sees of that, and it is told by kinds, each with the
+first of it; --keep has all. A difference after it is told to may follow from it: from what has the same name,
+if any, else from the last; one of what is written to a stream, from the first. Under --strict it ends the
+program. Calls that the C library makes inside are not seen: so printf is lost where dup2 puts a file of fdref
+at descriptor 1. Of threads one makes a call at a time, so where one waits the others do, which is told at once
+on standard error.
 
 Judged are the answers of the system, and not the program: a mistake of it that is the same in both runs
 is agreement.
@@ -47,33 +48,34 @@ the system's own calls is searched for, in which the model of fdref gives all it
 thread keeps its order, a fork is before the first call of its child, and a call that came back before another
 one began is before it. It is run through fdref then. If there is one, the two agree as far as that goes,
 which is agreement where standard output, standard error and status are the same too; if there is none, they do
-not. After 20 seconds or 100,000 states the search is given up, and it decides nothing
-where what has no line may be why it found none: that is told. Then a read of a pipe may have the reason that
-it depends on who comes first, and other answers that differ without a reason are not judged.
+not. After 20 seconds (--search) or 100,000 states the search is given up, and it
+decides nothing where what has no line may be why it found none: that is told. Then a read of a pipe may have
+the reason that it depends on who comes first, and other answers that differ without a reason are not judged.
 
 The processes of a program may come in another order in the next run, and where its answers depend on
 that, so may what is told of it.
 
 The last line says what the exit status means:
 
-0  both ended by themselves, with the same status, standard output and standard error, each answer that
-   differs has a reason, may follow from one that has, or comes by another order, and the audit finds the
-   trace legal, whatever went past fdref
+0  both ended by themselves, with the same status, standard output and standard error, each answer is the
+   same, or comes by another order of the same calls, and the audit finds the trace legal, whatever went past
+   fdref
 1  the answer to the same call differs, and none of these may be why: a reason, an order that was not decided
    on, what is told to go past fdref before it (tools/causes.py has what is known to be harmless), a thread
    that waits and holds its process, a child that a signal ended, a descriptor that no call of fdref made, and
    a right. Or no order gives the answers; or the audit finds a fault
 2  wrong words
-3  not judged: one of these may be why; or a process makes another call, so that its program went another way,
-   as by the time, a timer, the number of a process, an address or a mode; or the two end otherwise or write
-   something else though no answer differs without a reason. The last line names it (`perhaps by ..`). Or the
-   program could not be run or compared, ended with neither, or crashed with both, as by a bad address, or a
-   child did so with fdref for which it waited; or a call was made while another one of its process waits; or
-   judge.py itself has a fault
+3  not judged: answers differ that have a reason; or one of these may be why; or a process makes another call, so
+   that its program went another way, as by the time, a timer, the number of a process, an address or a mode; or
+   the two end otherwise or write something else though no answer differs without a reason. The last line names
+   it (`perhaps by ..`). Or the program could not be run or compared, ended with neither, or crashed with both,
+   as by a bad address, or a child did so with fdref for which it waited; or a call was made while another one
+   of its process waits; or judge.py itself has a fault
 """
 
 import argparse
 import collections
+import contextlib
 import fcntl
 import os
 import re
@@ -100,19 +102,23 @@ from support.auditing import Frames
 from support.call_logs import Log
 from support.commands import add_capacity, add_program, capacity_words, program_of
 from support.counting import Failure
+from support.ordering import ROOMY
 from support.places import TOP
 from support.running import Ran, run
 from support.runs import ALL_RECORDS, Line
 from support.serving import is_listening, outcome_of, serve_words, started
 from support.texts import difference, several
-from support.trees import Ended, never, run_tree
+from support.trees import Ended, never, rest_of, run_tree
 
 import causes
 import compare
 import past
+import preloads
 import some_order
-from compare_reasons import Reason, told_reason
-from partings import OF_TIME, Compared, Finding, Parting
+import waits
+from compare_reasons import PAGE, Reason, told_reason
+from handlers import signal_named
+from partings import OF_TIME, Compared, Finding, Parting, is_of_room
 from standstill import Beside, Standstill, seen_beside
 
 SHIM = TOP / "clients" / "preload" / "fdref_preload.c"
@@ -141,8 +147,8 @@ TOLD_WITHIN = (
 )
 NO_CALLS = (
     "made none of the calls that fdref knows, or does not load the shim, or not in time, as a static program, one that "
-    "is built with -fsanitize=address or thread, or one that is given an LD_PRELOAD of its own, as by env: what stands "
-    "before judge.py is added to the shim"
+    "is built with -fsanitize=address or thread, or one that is given an LD_PRELOAD of its own, as by env: --preload "
+    "adds a library to the shim"
 )
 # What the shim says where the connection is lost, and what may be why.
 IS_LOST = b"the connection is lost in "
@@ -169,7 +175,7 @@ CRASHES = {
 # What may be why the two runs end otherwise.
 BY_ORDER = "the order of the calls"
 BAD_ADDRESS = "a bad address, which is no EFAULT with the shim"
-UNTOLD = f"{causes.NUMBERS}, or an answer that has no line, as that of fsync"
+UNTOLD = f"{causes.NUMBERS}, or an answer that has no line, as those of stat, access, truncate and fsync"
 OTHER_WAY = "the calls differ, not the answers"
 # The statuses of what a timer ends.
 TIMED = (-signal.SIGALRM, -signal.SIGVTALRM, -signal.SIGPROF)
@@ -201,10 +207,12 @@ class Server:
 
     def __enter__(self) -> Self:
         until = time.monotonic() + START_SECONDS
+        late = waits.Late(lambda: waits.waits_for("fdref to serve, which may be compiled before", START_SECONDS))
         while not is_listening(self.path):
             if self.process.poll() is not None or time.monotonic() > until:
                 raise CannotJudge(f"no server: {self.killed()}")
             time.sleep(PAUSE)
+            late.look()
         return self
 
     def __exit__(
@@ -214,14 +222,15 @@ class Server:
 
     def killed(self) -> str:
         """How it ended, or that it was killed now, and what it wrote."""
-        if self.process.poll() is None:
+        with contextlib.suppress(ProcessLookupError):
             os.killpg(self.process.pid, signal.SIGKILL)
-        stdout, stderr = self.process.communicate()
+        stdout, stderr = rest_of(self.process)
         return Ran(self.process.returncode, stdout, stderr).said()
 
     def finish(self) -> None:
         """Makes the connections that it still waits for, so that it ends by itself with its trace whole."""
         until = time.monotonic() + END_SECONDS
+        late = waits.Late(lambda: waits.waits_for("fdref to end", END_SECONDS))
         left = self.sessions
         while self.process.poll() is None and time.monotonic() < until:
             with socket.socket(socket.AF_UNIX, socket.SOCK_STREAM | socket.SOCK_NONBLOCK) as client:
@@ -229,6 +238,7 @@ class Server:
             left -= is_taken
             if not is_taken or left <= 0:
                 time.sleep(PAUSE)
+            late.look()
         try:
             ran = outcome_of(self.process)
         except Failure as fault:
@@ -237,13 +247,23 @@ class Server:
             raise CannotJudge(f"the server ends with {ran.said()}")
 
 
+def run_within(words: Sequence[str], what: str, seconds: float) -> Ran:
+    """Runs a program that is waited for at most so long, which is told where it takes long."""
+    try:
+        with waits.Waiting(what, seconds):
+            return run(words, seconds=seconds)
+    except Failure as fault:
+        raise CannotJudge(f"waited for {what}: {fault}") from None
+
+
 def built_shim(folder: str) -> str:
     """The shim, as it is compiled into a folder."""
     compiler = os.environ.get("CC", "cc")
     path = os.path.join(folder, "libfdref_preload.so")
     if not shutil.which(compiler):
         raise CannotJudge(f"no C compiler {compiler}: $CC names another one, and --shim a built library")
-    ran = run([compiler, "-O2", "-shared", "-fPIC", "-o", path, str(SHIM), "-ldl"], seconds=BUILD_SECONDS)
+    words = [compiler, "-O2", "-shared", "-fPIC", "-o", path, str(SHIM), "-ldl"]
+    ran = run_within(words, f"{compiler} to compile the library", BUILD_SECONDS)
     if ran.status != 0:
         raise CannotJudge(f"{SHIM.relative_to(TOP)} is not compiled: {ran.said()}")
     return path
@@ -265,11 +285,26 @@ def limit_descriptors() -> None:
     resource.setrlimit(resource.RLIMIT_NOFILE, (plain_model.OPEN_MAX, most))
 
 
-def environment(shim: str, log: str, **more: str) -> dict[str, str]:
-    """The environment of a program that runs under the shim."""
+def environment(libraries: Sequence[str], log: str, **more: str) -> dict[str, str]:
+    """The environment of a program that runs under the shim, and other libraries after it."""
     others = {name: value for name, value in os.environ.items() if not name.startswith("FDREF_")}
-    before = [others["LD_PRELOAD"]] if others.get("LD_PRELOAD") else []
-    return {**others, "LD_PRELOAD": ":".join([shim, *before]), "FDREF_LOG": log, **more}
+    return {**others, preloads.VARIABLE: ":".join(libraries), "FDREF_LOG": log, **more}
+
+
+def room_of_system() -> int | None:
+    """How many bytes a pipe of the system takes that nobody reads, or None where it takes more than any of fdref's."""
+    reading, writing = os.pipe()
+    try:
+        os.set_blocking(writing, False)
+        size = 0
+        while size <= plain_model.PIPE_CAPACITY_MOST:
+            size += os.write(writing, bytes(PAGE))
+    except BlockingIOError:
+        return size
+    finally:
+        os.close(reading)
+        os.close(writing)
+    return None
 
 
 def processes_in(trace: bytes) -> int:
@@ -345,23 +380,37 @@ class Job:
         self.sessions = SESSIONS_MOST
         self.limits = plain_model.DEFAULTS
         self.is_strict = False
+        self.preloads: list[str] = []
+        self.search: float = some_order.SECONDS
 
-    def ran(self, name: str, is_over: Callable[[], bool] = never, **more: str) -> tuple[Ended, bytes]:
-        """How the program ends in an empty folder, and the log of its calls. It is killed once it is over."""
+    def ran(self, name: str, is_over: Callable[[], bool] = never, server: int = 0, **more: str) -> tuple[Ended, bytes]:
+        """How the program ends in an empty folder, beside a server, and the log of its calls. It is killed once it is
+        over."""
         # the names are the same for both runs, since a program may tell them
         log, noted = self.noted()
-        env = environment(self.shim, str(log), FDREF_PAST=str(noted), FDREF_STARTS="1", **more)
+        env = environment([self.shim, *self.preloads], str(log), FDREF_PAST=str(noted), FDREF_STARTS="1", **more)
         goes_on = partial(tell_that_others_go_on, WHERE[name])
+        late = waits.Late(lambda: f"{self.still_runs(name)}: {waits.all_doing(server)}")
         folder = os.path.join(self.folder, RUN)
         os.mkdir(folder)
+
+        def look() -> bool:
+            late.look()
+            return is_over()
+
         try:
             with open(self.stdin, "rb") as stdin:
-                ended = run_tree(self.words, folder, env, stdin, self.seconds, limit_descriptors, is_over, goes_on)
+                ended = run_tree(self.words, folder, env, stdin, self.seconds, limit_descriptors, look, goes_on)
         except OSError as fault:
             raise CannotJudge(f"{self.words[0]}: {fault.strerror}") from None
         for path, kept in ((Path(folder), f"{RUN}-{name}"), (log, f"{name}.log"), (noted, PAST[name])):
             path.rename(Path(self.folder, kept))
         return ended, Path(self.folder, f"{name}.log").read_bytes()
+
+    def still_runs(self, name: str) -> str:
+        """That a program takes long, and how long it may."""
+        so_far, most = f"{waits.TELL_SECONDS:g} seconds", f"{self.seconds:g} (--seconds)"
+        return f"{WHERE[name]} the program still runs after {so_far}, and is killed after {most}"
 
     def noted(self) -> tuple[Path, Path]:
         """The log of a run, and what is noted beside it, which are there from now on."""
@@ -380,7 +429,8 @@ class Job:
         with Server(self.program, self.folder, self.sessions, self.limits) as server:
             still = Standstill(server.trace, partial(seen_beside, server.process.pid))
             looker = Looker(still, self.noted()[1])
-            fdref, fdref_log = self.ran("fdref", looker.is_over, FDREF_SOCKET=server.path, **strict)
+            own = server.process.pid
+            fdref, fdref_log = self.ran("fdref", looker.is_over, own, FDREF_SOCKET=server.path, **strict)
             server.finish()
             trace = Path(server.trace).read_bytes()
         left_out = IS_LEFT_OUT.search(fdref.stderr) if self.is_strict else None
@@ -403,12 +453,15 @@ class Job:
     def audited(self) -> str:
         """What the audit says of the trace."""
         words = [*self.program, "audit", os.path.join(self.folder, "trace")]
-        return run(words, seconds=AUDIT_SECONDS).stdout.decode("ascii", "replace").strip()
+        ran = run_within(words, "the audit of the trace of fdref", AUDIT_SECONDS)
+        return ran.stdout.decode("ascii", "replace").strip()
 
     def verdict(self) -> "Verdict":
         """What comes of it."""
-        both = self.both()
-        return Verdict(both, self.audited(), self.sessions, self.program, os.path.join(self.folder, RUN))
+        both, folder, audit = self.both(), os.path.join(self.folder, RUN), self.audited()
+        calls = both.fdref_log.count(b"\n") + both.system_log.count(b"\n")
+        with waits.Waiting(f"the comparison of {several(calls, 'call')}, which computes"):
+            return Verdict(both, audit, self.sessions, self.program, folder, room_of_system(), self.search)
 
 
 class Verdict:
@@ -421,17 +474,21 @@ class Verdict:
         sessions: int = SESSIONS_MOST,
         program: list[str] | None = None,
         folder: str = "",
+        room: int | None = None,
+        search: float = some_order.SECONDS,
     ) -> None:
+        self.search = search
         self.both = both
         self.audit = audit
         try:
             is_killed, has_ended = both.system.status is None, both.fdref.status is not None
-            self.compared = Compared(both.system_log, both.fdref_log, both.trace, is_killed, has_ended)
+            logs = both.system_log, both.fdref_log
+            self.compared = Compared(*logs, both.trace, is_killed, has_ended, both.system_past, room)
         except Failure as fault:
-            raise CannotJudge(str(fault)) from None
+            raise CannotJudge("; ".join([str(fault), *told_torn(both)])) from None
         self.findings, self.unexplained = self.compared.findings, self.compared.unexplained
         self.past = past.past_of(both.past)
-        self.made = past.made(past.past_of(both.system_past))
+        self.native = past.past_of(both.system_past)
         self.crashes = [CRASHES[number] for number in past.signals(self.past) if number in CRASHES]
         if not self.compared.fdref.total() and not self.compared.system.total():
             told = told_started(self.compared.started) + past.told_past(self.past) + told_fault(both.fdref)
@@ -445,22 +502,32 @@ class Verdict:
 
     def ordered(self, program: list[str]) -> some_order.Ordered | None:
         """Whether some order of the calls of several processes explains the answers of the system."""
-        is_killed = self.both.system.status is None or past.signals(self.past)
+        is_killed = self.both.system.status is None or past.signals(self.past) or past.signals(self.native)
         doubt = "a process that was killed" if is_killed else past.doubt(self.past)
-        doubt = doubt or "".join(it.why() for it in self.made[:1])
-        if not doubt and past.cuts(past.past_of(self.both.system_past)):
+        doubt = doubt or "".join(it.why() for it in past.made(self.native)[:1])
+        if not doubt and past.cuts(self.native):
             doubt = "a call of a thread that the end of its process cut off"
         if not doubt and any(line.outcome in causes.OF_RIGHTS for line in self.compared.system_lines):
             doubt = causes.MODES
-        return some_order.ordered_of(self.compared, program, doubt)
+        # there are two, one of which is of larger pipes
+        with waits.Waiting("an order of the calls that gives all answers of the system", 2 * self.search):
+            return some_order.ordered_of(self.compared, program, doubt, self.search)
 
     def causes_in(self, folder: str) -> causes.Causes:
         """What may be why the two part in a folder, beside the calls."""
         compared = self.compared
         every = past.without_early(self.past, compared.records)
-        is_killed = self.both.system.status is None
         return causes.Causes(
-            every, compared.partings, compared.records, compared.limits, folder, self.made, compared.system, is_killed
+            every,
+            compared.partings,
+            compared.records,
+            compared.limits,
+            folder,
+            self.native,
+            compared.system,
+            self.both.system.status is None,
+            self.past,
+            compared.looks(),
         )
 
     def is_timed(self) -> bool:
@@ -487,6 +554,20 @@ class Verdict:
         is_lost = self.order is not None and self.order.is_found is False and finding.reason == OF_TIME
         return None if is_lost else finding.reason
 
+    def said(self, reason: Reason) -> str:
+        """A reason; of the room of a pipe also how much that is, and how it can be the same in both runs."""
+        one, other, most = self.compared.limits.capacity, self.compared.room, plain_model.PIPE_CAPACITY_MOST
+        if not is_of_room(reason) or one == other:
+            return reason.name
+        more = f", of which fdref's has {one:,} bytes" + (f" and the system's {other:,}" if other else "")
+        return f"{reason.name}{more}" + (f" (--pipe-capacity {most})" if one < most else "")
+
+    def said_reasons(self, findings: list[Finding]) -> str:
+        """The reasons of findings, as what is told above, or nothing."""
+        reasons = list(dict.fromkeys(self.said(reason) for it in findings if (reason := self.reason_of(it))))
+        which = "the reason above" if len(reasons) == 1 else "the reasons above"
+        return f"{which}: {'; '.join(reasons)}" if reasons else ""
+
     def is_by_order(self, finding: Finding) -> bool:
         """Whether an order that was found explains it."""
         if not self.order or not self.order.is_found:
@@ -501,10 +582,10 @@ class Verdict:
 
     def cause_of(self, finding: Finding) -> str:
         """What a finding without a reason may be by that is no answer of fdref, or nothing."""
-        cause = self.causes.of(finding)
+        killed, cause = self.causes.killed(finding.parting), self.causes.of(finding)
         other = self.causes.other(finding.parting, self.is_timed())
         is_crash = not finding.parting.fdref and self.both.fdref.status in (-signal.SIGSEGV, -signal.SIGBUS)
-        return cause.why() if cause else BAD_ADDRESS if is_crash else other
+        return killed or (cause.why() if cause else BAD_ADDRESS if is_crash else other)
 
     def has_cause(self, finding: Finding) -> bool:
         """Whether there is such a thing."""
@@ -518,15 +599,16 @@ class Verdict:
         cause = next(iter(held), None) or self.causes.of_output(descriptor)
         if cause:
             return cause.why()
+        handled = self.causes.handled(len(self.compared.records))
         if self.findings:
-            reason = self.reason_of(self.first()) if self.counted() else None
-            return f"the reason above: {reason.name}" if reason else BY_ORDER
+            by_order = " or ".join([handled] * bool(handled) + [BY_ORDER])
+            return self.said_reasons(self.counted()) or by_order
         late = [it.why() for it in self.causes.every if it.kind == past.SIGNAL]
         if late or self.is_timed():
             return late[0] if late else causes.TIMERS
         is_of_modes = past.has_looked(self.past, self.compared.records)
         numbers = f"which process came first, {UNTOLD}" if self.compared.processes > 1 else UNTOLD
-        return causes.MODES if is_of_modes else numbers
+        return " or ".join([handled] * bool(handled) + [causes.MODES if is_of_modes else numbers])
 
     def counted(self) -> list[Finding]:
         """The findings that no order explains."""
@@ -534,7 +616,8 @@ class Verdict:
 
     def is_all_compared(self) -> bool:
         """Whether all that it did was compared, but for what only looks."""
-        return not self.compared.started.calls and not past.doubt(self.past)
+        is_all_seen = not self.compared.started.calls and not self.compared.looks()
+        return is_all_seen and not past.doubt(self.past)
 
     def has_ended(self) -> bool:
         """Whether it ended by itself with either of the two."""
@@ -546,7 +629,8 @@ class Verdict:
             return 1
         if self.is_caused() or not self.has_ended() or crash_of(self.both) or self.crashes:
             return 3
-        return 0 if self.both.system == self.both.fdref else 3
+        is_alike = not self.counted() and not (self.order and self.order.is_roomy)
+        return 0 if is_alike and self.both.system == self.both.fdref else 3
 
 
 # ---- telling
@@ -575,7 +659,7 @@ def how(ended: Ended, seconds: float) -> str:
 
 def how_it_ended(status: int) -> str:
     """How a program ended by itself, for a reader."""
-    return f"ended with status {status}" if status >= 0 else f"ended by signal {-status}"
+    return f"ended with status {status}" if status >= 0 else f"ended by {signal_named(-status)}"
 
 
 def told_ends(verdict: Verdict, seconds: float) -> list[str]:
@@ -583,6 +667,7 @@ def told_ends(verdict: Verdict, seconds: float) -> list[str]:
     both, every = verdict.both, verdict.past
     system, fdref = how(both.system, seconds), both.still or how(both.fdref, seconds)
     lines = [f"both {system}"] if system == fdref else [f"system: {system}", f"fdref:  {fdref}"]
+    lines += told_broken_pipes(verdict)
     if both.system.status is None and both.fdref.status is None and not both.still:
         lines = [f"neither ended in {seconds:g} seconds: both were killed", *told_firsts(both)]
         lines += told_waits(verdict.compared.records)
@@ -602,6 +687,13 @@ def told_ends(verdict: Verdict, seconds: float) -> list[str]:
             is_known = cause and past.BETWEEN.fullmatch(cause.call)
             lines += [] if is_known else past.told_looks(every, verdict.compared.records)
     return lines
+
+
+def told_broken_pipes(verdict: Verdict) -> list[str]:
+    """What SIGPIPE is, where it ended the program or a child."""
+    ends = [ended.status for ended in (verdict.both.system, verdict.both.fdref)]
+    is_there = -signal.SIGPIPE in ends or signal.SIGPIPE in past.signals(verdict.past + verdict.native)
+    return ["SIGPIPE comes with EPIPE, of a write to a pipe that nobody reads, and ends a process"] if is_there else []
 
 
 def told_firsts(both: Both) -> list[str]:
@@ -626,6 +718,18 @@ def told_waits(records: list[Line]) -> list[str]:
     return [compare.clipped(f"waits: {line.act} = {line.outcome}") for line in waits]
 
 
+def told_torn(both: Both) -> list[str]:
+    """That a process which a signal ended may have been at writing its line of a log."""
+    every = past.past_of(both.past) + past.past_of(both.system_past)
+    return ["a process that a signal ended may have been writing its line"] if past.signals(every) else []
+
+
+def told_looks(looks: int) -> list[str]:
+    """How many answers were not compared since the library has no line of them."""
+    told = f"not compared: {several(looks, 'look')} at names, as by stat or access, which have no line"
+    return [told] if looks else []
+
+
 def told_started(started: Log) -> list[str]:
     """What was not compared: the calls of the programs that it starts."""
     calls, programs = several(started.total(), "call"), several(started.programs(), "program")
@@ -645,19 +749,27 @@ def told_finding(verdict: Verdict, before: int) -> list[str]:
     earlier = sorted((int(it.place), it) for it in lines if it.place.isdigit() and int(it.place) < parting.place)
     told = [f"  {line.place} {line.act} = {line.outcome}" for _, line in earlier[max(len(earlier) - before, 0) :]]
     told += [told_line("system:", parting.system), told_line("fdref: ", parting.fdref)]
-    cause = verdict.causes.of(finding)
+    is_killed = bool(verdict.causes.killed(parting))
+    cause = None if is_killed else verdict.causes.of(finding)
     follows = [compare.clipped(past.told_cause(cause, lines))] if cause else []
     told = [compare.clipped(line) for line in told]
     if verdict.is_by_order(finding) and verdict.order:
         # why a program makes other calls, or does not end, no order tells
         is_why = not parting.is_same_call() or (cause and cause.kind == past.THREAD)
         return [*told, f"reason: {verdict.order.told()}", *(follows if is_why else [])]
-    told += [told_reason(verdict.reason_of(finding)), *follows]
+    told += [told_reason(verdict.reason_of(finding)), *told_unended(finding), *follows]
     told += [verdict.order.told()] if verdict.order else []
     why = verdict.cause_of(finding)
     if not finding.reason and not cause and why:
         told.append(f"perhaps by {why}" if parting.is_same_call() else f"{OTHER_WAY}: perhaps by {why}")
     return told
+
+
+def told_unended(finding: Finding) -> list[str]:
+    """That no signal may be why a call has ended that gave EINTR, or a part."""
+    line = finding.parting.system
+    is_ended = line is not None and line.outcome == "error EINTR" and not finding.reason
+    return ["no signal explains EINTR: none had a handler then that ends calls"] if is_ended else []
 
 
 def told_hidden(hidden: list[Parting]) -> list[str]:
@@ -670,22 +782,30 @@ def told_hidden(hidden: list[Parting]) -> list[str]:
 
 def told_agreement(verdict: Verdict) -> str:
     """What status 0 means."""
-    findings = verdict.counted()
     rest = "" if verdict.is_all_compared() else " in what was compared, which is not all"
     order = verdict.order
-    by_order = [order.said] if order and order.is_found else []
-    if not findings:
-        return f"agreement{rest}: {by_order[0] if by_order else 'no answer differs'}"
-    by_order += told_open(order)
+    return f"agreement{rest}: {order.said if order and order.is_found else 'no answer differs'}"
+
+
+def told_reasons(verdict: Verdict) -> str:
+    """How many answers have a reason, which reasons there are, and whether an order explains the others. It may do so
+    only by larger pipes."""
+    findings, order = verdict.counted(), verdict.order
+    if order and order.is_roomy and not findings:
+        return f"{order.said}; fdref's has {verdict.compared.limits.capacity:,} (--pipe-capacity {ROOMY.capacity})"
     hidden = sum(it.follows for it in findings)
-    parts = [several(len(findings) - hidden, "answer differs with a reason", "answers differ with a reason")]
+    reasons = dict.fromkeys(verdict.said(reason) for it in findings if (reason := verdict.reason_of(it)))
+    count = several(len(findings) - hidden, "answer differs with a reason", "answers differ with a reason")
+    parts = [f"{count}: {'; '.join(reasons)}"]
     parts += [f"{several(hidden, 'later answer was', 'later answers were')} not judged"] if hidden else []
-    return "; ".join([f"no fault found, which is less than agreement: {', '.join(parts)}", *by_order])
+    by_order = [order.said] if order and order.is_found else []
+    return "; ".join([", ".join(parts), *by_order, *told_open(order)])
 
 
 def told_open(order: some_order.Ordered | None) -> list[str]:
     """That it was not decided whether there is an order."""
-    return ["not decided is whether the order of the calls explains it"] if order and order.is_found is None else []
+    told = "not decided is whether the order of the calls explains it"
+    return [f"{told}: {order.said}"] if order and order.is_found is None else []
 
 
 def told_unexplained(verdict: Verdict) -> str:
@@ -716,11 +836,13 @@ def told_not_judged(verdict: Verdict) -> str:
         return "neither of the two ended" + (", but for the program itself" if is_gone else "")
     if crash_of(verdict.both) or verdict.crashes:
         return "a crash is no agreement"
+    if verdict.both.system == verdict.both.fdref:
+        return told_reasons(verdict)
     cause, order = verdict.cause_of_end(), verdict.order
     told = f"the two runs end otherwise, or write something else, perhaps by {cause}"
     if not order or not order.is_found:
         return told
-    return f"{told}: {order.said}" if cause == BY_ORDER else f"{told}, though {order.said}"
+    return f"{told}: {order.said}" if cause.endswith(BY_ORDER) else f"{told}, though {order.said}"
 
 
 def told_verdict(verdict: Verdict) -> str:
@@ -764,6 +886,7 @@ def told(verdict: Verdict, seconds: float, before: int) -> str:
     lines += told_counts(verdict) if findings else []
     is_other = bool(findings) or do_outputs_differ(verdict.both)
     lines += past.told_signals(every) if is_other else []
+    lines += told_looks(len(verdict.compared.looks()))
     lines += map(compare.clipped, told_started(verdict.compared.started) + past.told_past(every))
     return "\n".join([*lines, f"audit: {verdict.audit}"])
 
@@ -803,9 +926,13 @@ def parse(words: Sequence[str]) -> argparse.Namespace:
     add_program(parser)
     add_capacity(parser)
     parser.add_argument("--shim", metavar="PATH", help="the shim, where it is built already")
+    library = "a library that is loaded into it after the shim; there may be several"
+    parser.add_argument("--preload", metavar="LIB", action="append", default=[], help=library)
     parser.add_argument("--stdin", metavar="FILE", default=os.devnull, help="its standard input, else /dev/null")
     seconds = "how long each of its two runs may take; 60 where no number is given"
     parser.add_argument("--seconds", metavar="N", type=number_in(1, 10**6), default=60, help=seconds)
+    search = f"how long an order of calls is searched for; {some_order.SECONDS} where no number is given"
+    parser.add_argument("--search", metavar="N", type=number_in(1, 10**6), default=some_order.SECONDS, help=search)
     sessions = f"processes that may come in all, at most {SESSIONS_MOST}, which is what is taken where none is given"
     parser.add_argument(
         "--sessions", metavar="N", type=number_in(1, SESSIONS_MOST), default=SESSIONS_MOST, help=sessions
@@ -823,9 +950,13 @@ def parse(words: Sequence[str]) -> argparse.Namespace:
     astray = [word for word in args.words if word.partition("=")[0] in own]
     if astray:
         print(f"judge.py: {astray[0]} is a word of {args.judged}: own options stand before it", file=sys.stderr)
-    for path in (args.stdin, args.shim, args.keep):
+    for path in (args.stdin, args.shim, args.keep, *args.preload):
         if path and not os.path.exists(path):
             parser.error(f"there is no {path}")
+    for fault in filter(None, map(preloads.fault_of, args.preload)):
+        parser.error(fault)
+    if stat.S_ISFIFO(os.stat(args.stdin).st_mode):
+        parser.error(f"{args.stdin} is a pipe, and the program is run twice: --stdin takes a file")
     return args
 
 
@@ -836,7 +967,7 @@ def job_of(args: argparse.Namespace, folder: str) -> Job:
     shim = os.path.abspath(args.shim) if args.shim else built_shim(folder)
     job = Job(words, program, shim, folder)
     job.stdin, job.seconds, job.sessions, job.is_strict = args.stdin, args.seconds, args.sessions, args.strict
-    job.limits = args.limits
+    job.limits, job.preloads, job.search = args.limits, preloads.preloads(args.preload), args.search
     return job
 
 
@@ -889,4 +1020,5 @@ def main_or_fault(words: Sequence[str]) -> int:
 
 
 if __name__ == "__main__":
+    preloads.begin_anew()
     sys.exit(main_or_fault(sys.argv[1:]))

@@ -5,18 +5,21 @@ are those of tools/compare.py and some more, since a program has processes that 
 """
 
 import itertools
-from collections.abc import Callable, Iterator
+from collections.abc import Callable, Iterator, Sequence
 from typing import NamedTuple
 
 from support import plain_model
 from support.auditing import Frames, Judge, act_of
 from support.call_logs import Log, Way, call_of, log_of, read_lines, word_of
 from support.counting import require
+from support.plain_model import PIPE_BUF
 from support.runs import Line, line_of
 
 import compare_reasons
-from compare_lines import is_moved
+from compare_lines import is_moved, moved
 from compare_reasons import APPENDED, OWN, Difference, Reason, is_append, process_of
+from handlers import Handlers, begun_at, signal_named
+from past import past_of
 from reach import Reach
 
 # ---- reasons
@@ -46,15 +49,43 @@ def is_past_size(it: Difference) -> bool:
 
 # Scripts that are compared do not meet these: one process acts at a time there, and the system has a limit of its own.
 OF_TIME = Reason("what is read of a pipe depends on who comes first", OWN, "page of read", is_of_time)
-SIGNALS = "a signal ends a call (EINTR), and signals are outside fdref"
 # The calls that a signal may end, as their pages say.
 MAY_BE_ENDED = ("open", "close", "read", "write", "pread", "pwrite", "dup2", "ftruncate")
-EINTR = Reason(SIGNALS, OWN, "XSH 2.4.4", lambda it: it.system == "error EINTR" and it.words(*MAY_BE_ENDED))
+# What a signal does that has a handler; which signal is said after it. And what another process or thread may do.
+EINTR = Reason("a signal ends a call (EINTR)", OWN, "XSH 2.4.4", lambda it: it.system == "error EINTR")
+CUT = Reason("a signal cuts a write short", OWN, "page of write", lambda it: is_short(it))
+UNWAITED = "O_NONBLOCK is set while a call waits"
+TURNED = Reason(UNWAITED, OWN, "pages of fcntl, read and write", lambda it: is_unwaited(it))
 MORE_REASONS = [
-    EINTR,
     OF_TIME,
     Reason("more than 1,099,511,627,776 bytes in a file", OWN, "page of write", is_past_size),
 ]
+
+
+def is_short(it: Difference) -> bool:
+    """Whether a write that waits for room came back on the system with a part, one that may go in by parts. A part of
+    nothing may be that of another piece of a large one, which ended before that."""
+    if not it.words("write") or not it.at or not it.at.pipe or it.at.nonblock or not is_moved(it.fdref):
+        return False
+    return it.system.isdigit() and 0 <= int(it.system) < it.count() and (it.count() > PIPE_BUF or it.system == "0")
+
+
+def is_unwaited(it: Difference) -> bool:
+    """Whether a call on a pipe that would wait came back on the system with a part, or with EAGAIN."""
+    if not it.words("read", "write") or not it.at or not it.at.pipe or it.at.nonblock:
+        return False
+    return is_short(it) or it.system == "error EAGAIN"
+
+
+def is_by_signal(reason: Reason | None) -> bool:
+    """Whether a signal is the reason that a call has ended."""
+    return reason is not None and reason.fits is EINTR.fits
+
+
+def by_signals(reason: Reason, numbers: Sequence[int]) -> Reason:
+    """The reason with the signals that may be why."""
+    have = "has a handler" if len(numbers) == 1 else "have handlers"
+    return reason._replace(name=f"{reason.name}: {', '.join(map(signal_named, numbers))} {have}")
 
 
 class Parting(NamedTuple):
@@ -101,16 +132,76 @@ def shared_reads(trace: list[Line], limits: plain_model.Limits) -> set[int]:
     return {place for place, pipe in reads if any(len(users.get((pipe, word), ())) > 1 for word in ("read", "write"))}
 
 
+def is_turn(line: Line) -> bool:
+    """Whether a line is that of a call by which a descriptor waits no more."""
+    words = line.act.split(" ")
+    return words[1] == "setfl" and line.outcome == "ok" and "nonblock" in words[-1].split(",")
+
+
+def turned_calls(trace: list[Line], limits: plain_model.Limits) -> set[int]:
+    """The places of the reads and writes on a description that waits no more by a call of another process, or by one
+    that is made later."""
+    judge = Judge(limits)
+    calls: list[tuple[int, int, plain_model.Description]] = []
+    # of each description who has turned it, and where that was last
+    turned: dict[plain_model.Description, set[int]] = {}
+    last: dict[plain_model.Description, int] = {}
+    for place, line in enumerate(trace):
+        act = act_of(line.act)
+        process = process_of(judge.world, act)
+        at = process.table.get(act.fields[0]) if process and act.word in ("read", "write", "setfl") else None
+        if process and at and act.word != "setfl":
+            calls.append((place, process.number, at))
+        elif process and at and is_turn(line):
+            turned.setdefault(at, set()).add(process.number)
+            last[at] = place
+        judge.outcome_of(act)
+    return {place for place, number, at in calls if place < last.get(at, -1) or turned.get(at, set()) - {number}}
+
+
+class Turns:
+    """The calls of a native run by which descriptors wait no more, and where the other run has what they may end."""
+
+    def __init__(
+        self, lines: Sequence[Line], handlers: Handlers, trace: list[Line], limits: plain_model.Limits
+    ) -> None:
+        self.handlers = handlers
+        self.turns = [line for line in lines if is_turn(line)]
+        self.are_all_there = sum(map(is_turn, trace)) >= len(self.turns)
+        self.places = turned_calls(trace, limits) if self.turns else set()
+
+    def overlap(self, line: Line) -> bool:
+        """Whether one of them was made by another process or thread while a call was made natively."""
+        begin, end = begun_at(line), self.handlers.places.get(id(line), 0)
+        own = line.number(), line.place.partition("@")[0]
+        others = (it for it in self.turns if (it.number(), it.place.partition("@")[0]) != own)
+        return any(self.handlers.places[id(it)] >= begin and begun_at(it) <= end for it in others)
+
+    def may_end(self, line: Line, place: int) -> bool:
+        """Whether one of them may have ended a call that fdref has at a place."""
+        return self.overlap(line) and (place in self.places or not self.are_all_there)
+
+
 def is_at_the_end(line: Line) -> bool:
     """Whether a record may be there because all processes of a run were killed."""
     return word_of(line) in ("exit", "resume", "close-run")
 
 
 class Story:
-    """What fdref recorded, with the model beside it."""
+    """What fdref recorded, with the model beside it, and what may have ended calls of the native run."""
 
-    def __init__(self, trace: list[Line], limits: plain_model.Limits) -> None:
+    def __init__(
+        self,
+        trace: list[Line],
+        limits: plain_model.Limits,
+        handlers: Handlers | None = None,
+        turns: Turns | None = None,
+        room: int | None = None,
+    ) -> None:
         self.trace = trace
+        self.room = room
+        self.handlers = handlers or Handlers((), ())
+        self.turns = turns or Turns((), self.handlers, [], limits)
         self.judge = Judge(limits)
         self.place = 0
         # the files that a pwrite under append may have made another on the system
@@ -226,12 +317,48 @@ def difference_of(parting: Parting, story: Story) -> Difference | None:
         return None
 
 
-def reason_of(it: Difference, story: Story) -> Reason | None:
-    """The reason of a difference, if it has one. It may be by a pwrite under append before it, or by who came first."""
-    reason = compare_reasons.reason_of(it) or next((more for more in MORE_REASONS if more.fits(it)), None)
+def reason_of(it: Difference, line: Line, story: Story) -> Reason | None:
+    """The reason of a difference of a line of the native run, if it has one. It may be by a signal, by a pwrite under
+    append before it, or by who came first."""
+    is_roomy = may_be_room(it, story.room)
+    known = [one for one in (*compare_reasons.REASONS, *MORE_REASONS) if is_roomy or not is_of_room(one)]
+    reason = ended_by(it, line, story) or next((one for one in known if one.fits(it)), None)
     is_appended = bool(it.at and not it.at.pipe and any(it.at.file is file for file in story.appended))
     by_others = APPENDED if is_appended else OF_TIME if is_shared(it, story) else None
     return reason or by_others
+
+
+def ended_by(it: Difference, line: Line, story: Story) -> Reason | None:
+    """What may have ended a native call before its time: a signal that had a handler, or that it was not to wait."""
+    if it.system == "0" and id(line) not in story.handlers.rests:
+        return None
+    if is_turned_by(it, line, story):
+        return TURNED
+    ending = story.handlers.ending(line) if EINTR.fits(it) and it.words(*MAY_BE_ENDED) else []
+    cutting = story.handlers.cutting(line) if CUT.fits(it) else []
+    return by_signals(EINTR, ending) if ending else by_signals(CUT, cutting) if cutting else None
+
+
+def is_of_room(reason: Reason | None) -> bool:
+    """Whether a reason is that a pipe has another room."""
+    return reason is not None and reason.fits in (compare_reasons.is_room, compare_reasons.is_paged_room)
+
+
+def may_be_room(it: Difference, room: int | None) -> bool:
+    """Whether the room of a pipe of the system, where it is known, may be why a write is another one. Where more went
+    in than with fdref the system has so much room; where less, its pages may be full, of which each two next to each
+    other hold more than one has room for."""
+    if room is None or not it.words("write") or not it.at or not it.at.pipe:
+        return True
+    held = len(it.at.pipe.data)
+    if moved(it.system) > moved(it.fdref):
+        return held + moved(it.system) <= room
+    return held + it.count() > room // 2 - compare_reasons.PAGE
+
+
+def is_turned_by(it: Difference, line: Line, story: Story) -> bool:
+    """Whether another process or thread may have set O_NONBLOCK while a call waited."""
+    return TURNED.fits(it) and story.turns.may_end(line, it.place)
 
 
 def is_shared(it: Difference, story: Story) -> bool:
@@ -257,6 +384,11 @@ def names_of(parting: Parting, world: plain_model.World) -> frozenset[str]:
     return frozenset(found)
 
 
+def size_of(word: str) -> int:
+    """How many bytes data has that is spelled so."""
+    return len(plain_model.read_data(word.encode()) or b"")
+
+
 def act_at(parting: Parting) -> plain_model.Act | None:
     """The call that both make, where it is one and can be read."""
     try:
@@ -280,7 +412,7 @@ def findings_of(
     are_apart = False
     for parting in partings:
         difference = difference_of(parting, story)
-        reason = reason_of(difference, story) if difference else None
+        reason = reason_of(difference, parting.system, story) if difference and parting.system else None
         world = story.world_before(parting.place)
         act = act_at(parting)
         follows = not reason and are_apart and (not act or story.reach.reaches(world, act))
@@ -310,9 +442,19 @@ def check_places(lines: list[Line], trace: list[Line]) -> None:
 
 class Compared:
     """Two logs, which are compared: what is found, and the first finding that has no reason and follows from none. The
-    run on the system may have been killed, and the one with fdref may have ended by itself."""
+    run on the system may have been killed, and the one with fdref may have ended by itself. What was noted natively
+    tells which signals had handlers. The room of a pipe of the system may be known."""
 
-    def __init__(self, system: bytes, fdref: bytes, trace: bytes, is_killed: bool, has_ended: bool) -> None:
+    def __init__(
+        self,
+        system: bytes,
+        fdref: bytes,
+        trace: bytes,
+        is_killed: bool,
+        has_ended: bool,
+        noted: bytes = b"",
+        room: int | None = None,
+    ) -> None:
         self.lines, self.system_lines = read_lines(fdref, "with fdref"), read_lines(system, "on the system")
         on_system, with_fdref = log_of(self.system_lines), log_of(self.lines)
         self.processes = len(on_system.calls)
@@ -323,13 +465,41 @@ class Compared:
         self.records = [line_of(text) for text in frames.lines]
         self.limits = frames.header.limits if frames.header else plain_model.DEFAULTS
         check_places(self.lines, self.records)
-        story = Story(self.records, self.limits)
+        self.room = room
+        self.handlers = Handlers(past_of(noted), self.system_lines)
+        self.turns = Turns(self.system_lines, self.handlers, self.records, self.limits)
+        story = self.story()
         add_waits(self.system, self.fdref, story, is_killed, has_ended)
         self.partings = all_partings(self.system, self.fdref, story)
         self.findings = findings_of(self.partings, story)
         self.unexplained = next((it for it in self.findings if not it.reason and not it.follows), None)
 
+    def story(self) -> Story:
+        """What fdref recorded, from its beginning."""
+        return Story(self.records, self.limits, self.handlers, self.turns, self.room)
+
+    def looks(self) -> list[int]:
+        """The places at which the library looked at a name for the program, as stat, access and truncate do."""
+        told = {int(line.place) for line in self.lines if line.place.isdigit()}
+        acts = ((place, line.act.split(" ")) for place, line in enumerate(self.records) if place not in told)
+        return [place for place, words in acts if words[1] == "open" and words[-1] == "rw"]
+
+    def is_ended(self, line: Line) -> bool:
+        """Whether a signal may have ended a native call, which has done nothing then."""
+        is_one = line.outcome == "error EINTR" and word_of(line) in MAY_BE_ENDED
+        return is_one and bool(self.handlers.ending(line))
+
+    def is_cut(self, line: Line) -> bool:
+        """Whether a native call may have come back before its time, by a signal or since it was to wait no more."""
+        words = line.act.split(" ")
+        is_part = words[1] == "write" and line.outcome.isdigit() and int(line.outcome) < size_of(words[-1])
+        is_part = is_part and (line.outcome != "0" or id(line) in self.handlers.rests)
+        if is_part and self.handlers.cutting(line):
+            return True
+        is_early = is_part or (words[1] in ("read", "write") and line.outcome == "error EAGAIN")
+        return is_early and self.turns.overlap(line)
+
     def without_cause(self, has_cause: Callable[[Finding], bool]) -> list[int]:
         """Which findings have no reason, and neither have a cause nor may follow from one that has."""
-        findings = findings_of(self.partings, Story(self.records, self.limits), has_cause)
+        findings = findings_of(self.partings, self.story(), has_cause)
         return [at for at, it in enumerate(findings) if not (it.reason or it.follows or has_cause(it))]

@@ -22,10 +22,22 @@ INTERRUPT = "interrupt"
 # A timer that the program starts; a limit that it sets; and a descriptor that is open in the native run, though no call
 # that fdref knows made it, whose number stands in the place of the call.
 TIMER, LIMIT, MADE = "timer", "limit", "made"
-COUNTED = {PATH: "path", STREAM: "stream", PROGRAM: "program", CALL: "other call", LIMIT: "limit"}
+# How a signal is handled from now on, whose number stands in the place of the call.
+HANDLER = "handler"
+# A call that makes a descriptor of the system, which natively has a low number.
+MAKES = "makes"
+COUNTED = {
+    PATH: "path",
+    STREAM: "stream",
+    PROGRAM: "program",
+    CALL: "other call",
+    LIMIT: "limit",
+    MAKES: "descriptor of the system",
+}
+MANY = {MAKES: "descriptors of the system"}
 
 # Kinds that have changed nothing in the native run which has no line, or are asked for by themselves.
-UNDOUBTED = (THREAD, SIGNAL, VFORK, CUT, INTERRUPT, TIMER, MADE)
+UNDOUBTED = (THREAD, SIGNAL, VFORK, CUT, INTERRUPT, TIMER, MADE, HANDLER, MAKES)
 
 # Calls that look, or hasten what comes anyway: they change no file, but may tell something else than natively.
 LOOKS = re.compile(
@@ -66,6 +78,7 @@ class Past(NamedTuple):
             MADE: f"descriptor {self.call}, which is open, and no call that fdref knows made it",
             LIMIT: f"setrlimit of {self.call}",
             INTERRUPT: f"a signal in {self.call}, which ends no call of fdref",
+            MAKES: f"{self.call}, whose descriptor has a low number natively",
         }
         if self.kind == CALL and self.name.isdigit():
             return f"{self.call} on descriptor {self.name}"
@@ -73,7 +86,7 @@ class Past(NamedTuple):
 
     def is_past(self) -> bool:
         """Whether it is a call that went past fdref, and not what holds one of fdref."""
-        return self.kind not in (THREAD, SIGNAL, MADE, INTERRUPT)
+        return self.kind not in (THREAD, SIGNAL, MADE, INTERRUPT, HANDLER, MAKES)
 
     def why(self) -> str:
         """The same as what a difference may be by."""
@@ -137,8 +150,9 @@ def told_past(every: list[Past]) -> list[str]:
     """How much of each kind went past fdref, with the first of it; where stdio did, and that a thread waited."""
     told = []
     for kind, one in COUNTED.items():
-        said = [it.said() for it in every if it.kind == kind]
-        told += [f"{len(said)} {one}s (first {said[0]})" if said[1:] else f"1 {one} ({said[0]})"] if said else []
+        said = [it.call if kind == MAKES else it.said() for it in every if it.kind == kind]
+        more = MANY.get(kind, f"{one}s")
+        told += [f"{len(said)} {more} (first {said[0]})" if said[1:] else f"1 {one} ({said[0]})"] if said else []
     lines = [f"past fdref: {', '.join(told)}"] if told else []
     for number in sorted({it.call for it in every if it.kind == STDIO}):
         lines.append(f"past fdref: stdio on descriptor {number}, which is a file of fdref, where it would fail")
@@ -192,6 +206,11 @@ def made(every: list[Past]) -> list[Past]:
 def cuts(every: list[Past]) -> bool:
     """Whether a process ended while threads of it may have been in a call."""
     return any(it.kind == CUT for it in every)
+
+
+def killed(every: list[Past], number: int) -> str:
+    """The signal that ended a process, as its parent was told of it, or nothing."""
+    return next((it.call for it in every if it.kind == SIGNAL and it.name == f"p{number}"), "")
 
 
 def signals(every: list[Past]) -> list[int]:

@@ -23,8 +23,9 @@ from support.plain_model import TRANSFER_MAX, Limits
 from support.replaying import verified
 from support.runs import Line
 from support.searching import Search, Step, TooLong
+from support.texts import several
 
-from partings import EINTR, MAY_BE_ENDED, OF_TIME, Compared, Finding
+from partings import OF_TIME, Compared, Finding, is_by_signal
 from thread_order import ThreadSearch
 
 # A search is given up after so many states, or after fewer, where these have many bytes; and after so long.
@@ -44,11 +45,12 @@ OTHERS = "an order of these calls gives all other answers of the system"
 
 class Ordered(NamedTuple):
     """Whether an order was found: `is_found`, or None where that was not decided, and what is said of it. It is whole
-    where it gives all answers, and those that have a reason too."""
+    where it gives all answers, and those that have a reason too, and roomy where it does so only by larger pipes."""
 
     is_found: bool | None
     said: str
     is_whole: bool = False
+    is_roomy: bool = False
 
     def told(self) -> str:
         """The line that tells it."""
@@ -199,7 +201,7 @@ class Builder:
         found: list[Noted] = []
         for at, line in enumerate(lines):
             start = self.start_of(line, start)
-            if line.outcome != "error EINTR" or word_of(line) not in MAY_BE_ENDED:
+            if not self.compared.is_ended(line):
                 outcome = UNKNOWN if id(line) in self.unknown else line.outcome
                 found.append(Noted(start, self.after(line) - 1, read_act(line.act), outcome))
             start = start if is_piece(lines[at : at + 2]) else self.after(line)
@@ -286,19 +288,21 @@ def written(history: Sequence[Noted]) -> int:
     return sum(len(it.act.fields[1]) for it in history if it.act.word == "write")
 
 
-def most_states(lanes: Sequence[Sequence[Noted]]) -> int:
-    """How many states a search may go through, each of which may have all bytes that are written."""
+def most_states(lanes: Sequence[Sequence[Noted]], seconds: float) -> int:
+    """How many states a search may go through in so long a time, each of which may have all bytes that are written."""
     acts = (noted.act for lane in lanes for noted in lane)
     size = sum(len(act.fields[-1]) for act in acts if act.word in ("write", "pwrite"))
-    return max(STATES_LEAST, min(STATES_MOST, BYTES_MOST // (size + 1)))
+    return int(max(STATES_LEAST, min(STATES_MOST, BYTES_MOST // (size + 1))) * max(1, seconds / SECONDS))
 
 
-def search(builder: Builder, limits: Limits, program: list[str]) -> bool:
+def search(builder: Builder, limits: Limits, program: list[str], seconds: float) -> bool:
     """Whether an order explains the history. The program has to give the same in that order."""
+    by = by_threads if builder.has_threads() else by_processes
     try:
-        found = by_threads(builder, limits) if builder.has_threads() else by_processes(builder, limits)
+        found = by(builder, limits, seconds)
     except TooLong as fault:
-        raise Open(f"given up after {fault.states:,} states") from None
+        tried = f"given up after {several(fault.states, 'state')}, or {seconds:g} seconds"
+        raise Open(f"{tried}: fewer processes, threads or calls at once may decide it, or --search N seconds") from None
     if found is None:
         return False
     steps, history = found
@@ -306,18 +310,18 @@ def search(builder: Builder, limits: Limits, program: list[str]) -> bool:
     return True
 
 
-def by_processes(builder: Builder, limits: Limits) -> tuple[list[Step], list[Noted]] | None:
+def by_processes(builder: Builder, limits: Limits, seconds: float) -> tuple[list[Step], list[Noted]] | None:
     """An order of the calls of processes, and the history."""
     lanes = builder.lanes()
     ordered = sorted((noted for lane in lanes for noted in lane), key=lambda noted: noted.start)
-    steps = Search(ordered, limits, most_states(lanes), SECONDS).order()
+    steps = Search(ordered, limits, most_states(lanes, seconds), seconds).order()
     return None if steps is None else (steps, ordered)
 
 
-def by_threads(builder: Builder, limits: Limits) -> tuple[list[Step], list[Noted]] | None:
+def by_threads(builder: Builder, limits: Limits, seconds: float) -> tuple[list[Step], list[Noted]] | None:
     """An order of the calls of threads, and the history in that order."""
     lanes = builder.lanes()
-    threads = ThreadSearch(lanes, limits, most_states(lanes), SECONDS)
+    threads = ThreadSearch(lanes, limits, most_states(lanes, seconds), seconds)
     found = threads.order()
     if found is None and threads.has_waited:
         raise Open("a thread may have waited in a call, beside which others make theirs")
@@ -329,38 +333,48 @@ def by_threads(builder: Builder, limits: Limits) -> tuple[list[Step], list[Noted
 
 def is_open_to(finding: Finding) -> bool:
     """Whether a finding has a reason by which the runs went apart, so that an order may be missing for that alone."""
-    return bool(finding.reason) and finding.reason not in (OF_TIME, EINTR) and not finding.is_settled
+    is_other = finding.reason != OF_TIME and not is_by_signal(finding.reason)
+    return bool(finding.reason) and is_other and not finding.is_settled
 
 
-def ordered_of(compared: Compared, program: list[str], doubt: str) -> Ordered | None:
-    """Whether some order explains the answers of the system: None where there is nothing to search for. A doubt is why
-    there may be none though the system is right: something was done that has no line."""
+def ordered_of(compared: Compared, program: list[str], doubt: str, seconds: float = SECONDS) -> Ordered | None:
+    """Whether some order explains the answers of the system, as far as so long a search tells: None where there is
+    nothing to search for. A doubt is why there may be none though the system is right: something was done that has no
+    line."""
     has_threads = Builder(compared).has_threads()
     if not compared.findings or (len(compared.system.calls) < 2 and not has_threads):
         return None
     try:
-        return found_for(compared, program, doubt)
+        return found_for(compared, program, doubt, seconds)
     except Open as why:
         return Ordered(None, str(why))
 
 
-def found_for(compared: Compared, program: list[str], doubt: str) -> Ordered:
+def found_for(compared: Compared, program: list[str], doubt: str, seconds: float) -> Ordered:
     """The same, where it can be asked."""
     builder, roomy = Builder(compared), Builder(compared, True)
-    if search(builder, compared.limits, program):
+    if any(line.outcome == "error EINTR" and not compared.is_ended(line) for line in compared.system_lines):
+        return none_in(builder)
+    if search(builder, compared.limits, program, seconds):
         return Ordered(True, AN_ORDER if not builder.unknown else OTHERS, not builder.unknown)
     size = written([noted for lane in builder.lanes() for noted in lane])
     has_less = compared.limits.capacity < ROOMY.capacity
-    if size > compared.limits.capacity and has_less and search(roomy, ROOMY, program):
+    if size > compared.limits.capacity and has_less and search(roomy, ROOMY, program, seconds):
         room = f"where a pipe holds {ROOMY.capacity:,} bytes: {ROOM} (own; page of write)"
-        return Ordered(True, f"{OTHERS if roomy.unknown else AN_ORDER}, {room}", not roomy.unknown)
+        return Ordered(True, f"{OTHERS if roomy.unknown else AN_ORDER}, {room}", not roomy.unknown, True)
     doubts = {
         doubt: bool(doubt),
         "another difference with a reason": any(is_open_to(it) for it in compared.findings),
         "what the shim asked in between": not builder.is_exact,
+        "a signal, or O_NONBLOCK that is set while a call waits,": any(map(compared.is_cut, compared.system_lines)),
         ROOM: size > PAGE,
     }
     why = next((why for why, holds in doubts.items() if holds), "")
     if why:
         raise Open(f"none was found, but {why} may be why")
+    return none_in(builder)
+
+
+def none_in(builder: Builder) -> Ordered:
+    """That no order gives all answers. No order at all gives an EINTR, which is by a signal or wrong."""
     return Ordered(False, f"no {(OTHERS if builder.unknown else AN_ORDER).removeprefix('an ')}")

@@ -21,13 +21,18 @@
                         after a tab its name: `! 6 p0 path open<tab>d/x`, `! 6 p0 program system<tab>./a`,
                         `! 6 p0 thread read`. In `! 6 p0 call poll<tab>3` it is a descriptor of fdref. Where
                         FDREF_STRICT would not tell it `-` stands for `!`: `- 6 p0 stream fopen<tab>/tmp/x`, and
-                        `- 6 p0 stdio 1`, as a file of fdref comes to be at descriptor 0, 1 or 2. `- 6 p0 signal 11`
-                        is a child that a signal ended, as wait, waitid or waitpid told, `- 6 p0 vfork fork` a vfork,
-                        and `- 6 p0 interrupt read` a signal in a call that waits, whose handler restarts none. So are
-                        `- 6 p0 timer alarm` and `! 6 p0 limit RLIMIT_FSIZE`, as a program starts a timer or sets that
-                        limit or RLIMIT_NOFILE. In a native run two kinds are there: after `- 0 p0 cut exit` a process
-                        ended while others of its threads may have been in a call, and by `! 0 p0 made 3` a descriptor
-                        is higher since 3 is open, which no call made that fdref knows.
+                        `- 6 p0 stdio 1`, as a file of fdref comes to be at descriptor 0, 1 or 2. `- 6 p0 signal 11` is
+                        a child that a signal ended, as wait, waitid or waitpid told, after a tab its number where that
+                        is known; `- 6 p0 vfork fork` a vfork, and `- 6 p0 interrupt read` a signal in a call that
+                        waits, whose handler restarts none. So are `- 6 p0 timer alarm` and `! 6 p0 limit RLIMIT_FSIZE`,
+                        as a program starts a timer or sets that limit or RLIMIT_NOFILE, and
+                        `- 6 p0 handler 14<tab>ends`, as it sets a handler of signal 14 that ends calls, or `restarts`
+                        them, or takes it away (`none`). `- 6 p0 makes socket` is a call that makes a descriptor of the
+                        system, from 32 on, where a native run has the lowest that is free. In a native run four kinds
+                        are there: after `- 0 p0 cut exit` a process ended while others of its threads may have been in
+                        a call; by `! 0 p0 made 3` a descriptor is higher since 3 is open, which no call made that fdref
+                        knows; and `signal` and `handler`, with the length of the log in the place of the place. There a
+                        child has the handlers of its parent once more, and after an exec 0 stands for all signals.
 
    Without the first two nothing is changed, nor before a program has its environment, as in .preinit_array. Where there
    is no answer (no server, no place at it for one more process, a run that is full, a lost connection), and where a
@@ -44,8 +49,9 @@
    to 32 or more is EBADF.
 
    What is no single call of fdref:
-     - A transfer of more than 65,536 bytes is made, and logged, in pieces of that size until one is short. readv and
-       writev are one transfer.
+     - A transfer of more than 65,536 bytes is made, and logged, in pieces of that size until one is short; a read of a
+       pipe is one piece. A native write to a pipe that ends after whole pieces has one more in the log, of EAGAIN, or of
+       nothing where it waits. readv and writev are one transfer.
      - stat of a name is an open for reading and writing, an fstat and a close. A name that is there and cannot be
        opened so is a FIFO; it is told to have 1 link and no bytes. statx and access are the same, and truncate has an
        ftruncate in between. None of these is logged, also in a native run. They are EMFILE where no descriptor is free.
@@ -485,7 +491,39 @@ static int64_t note_piece(struct fdref_act act, const void *bytes, int64_t given
     int is_more = given > (int64_t)act.count && !(is_last && is_write(act.kind));
     int64_t some = is_more ? (int64_t)act.count : given;
     uint64_t number = some < 0 ? 0 : (uint64_t)some;
+    /* a read that answers more than it was asked for: its bytes are not all there */
+    if (is_more && is_last)
+        return note(act, fdref_number((uint64_t)given), given);
     return note(act, is_write(act.kind) ? fdref_number(number) : fdref_data(bytes, (size_t)number), some);
+}
+
+/* Whether a descriptor is an end of a pipe or of a FIFO. */
+static int is_pipe_at(int fd)
+{
+    int error = errno, is_pipe = slot_of(fd).is_pipe || (slot_of(fd).inode & fifo_bit) != 0;
+    if (how == NATIVE)
+        is_pipe = seek_by(fd, SEEK_CUR) < 0;
+    errno = error;
+    return is_pipe;
+}
+
+/* Logs the next piece of a write to a pipe that came back before it: as EAGAIN where it does not wait, and else as one
+   of nothing, as where a signal came. */
+static void note_rest(struct fdref_act act)
+{
+    int is_waiting = (system_fcntl(act.fd, F_GETFL, 0) & O_NONBLOCK) == 0;
+    errno = EAGAIN;
+    note(act, fdref_number(0), is_waiting ? 0 : -1);
+}
+
+/* Whether there is another piece after a whole one. What a pipe has is read at once: one piece, as fdref's hold. */
+static int has_next_piece(struct fdref_act act, int64_t moved, int64_t given)
+{
+    if (!is_write(act.kind))
+        return is_pipe_at(act.fd) ? how == NATIVE && moved < given : 1;
+    if (how == NATIVE && moved == given && is_pipe_at(act.fd))
+        note_rest(act);
+    return how != NATIVE || moved < given;
 }
 
 /* Makes a transfer in pieces until one is short, or logs one that came to what is given. */
@@ -493,9 +531,9 @@ static int64_t in_pieces(struct fdref_act act, char *bytes, int64_t given)
 {
     uint64_t rest = act.count;
     int64_t moved = 0, some;
+    act.count = rest < FDREF_TRANSFER_MOST ? rest : FDREF_TRANSFER_MOST;
+    act.data = is_write(act.kind) ? bytes : NULL;
     do {
-        act.count = rest < FDREF_TRANSFER_MOST ? rest : FDREF_TRANSFER_MOST;
-        act.data = is_write(act.kind) ? bytes : NULL;
         some = how == NATIVE ? note_piece(act, bytes, given < 0 ? given : given - moved, rest == act.count)
                              : ask_most(act, bytes, act.count);
         if (some < 0 || (uint64_t)some > rest)
@@ -504,7 +542,9 @@ static int64_t in_pieces(struct fdref_act act, char *bytes, int64_t given)
         bytes = some > 0 ? bytes + some : bytes;
         rest -= (uint64_t)some;
         act.offset += some;
-    } while (some == FDREF_TRANSFER_MOST && rest > 0 && !(how == NATIVE && is_write(act.kind) && moved == given));
+        act.count = rest < FDREF_TRANSFER_MOST ? rest : FDREF_TRANSFER_MOST;
+        act.data = is_write(act.kind) ? bytes : NULL;
+    } while (some == FDREF_TRANSFER_MOST && rest > 0 && has_next_piece(act, moved, given));
     return moved;
 }
 
@@ -560,10 +600,11 @@ static int is_moved(struct moving *it)
 
 static ssize_t moved(struct moving *it, ssize_t given)
 {
+    int64_t most = (int64_t)it->going.act.count;
     if (it->going.way != NOTE)
         return given;
     if (it->parts && !is_write(it->going.act.kind) && given > 0)
-        spread(it->parts, it->bytes, (size_t)given, 1);
+        spread(it->parts, it->bytes, (size_t)(given < most ? given : most), 1);
     ALONE(in_pieces(it->going.act, it->bytes, given));
     end_moving(it);
     return given;
@@ -1071,6 +1112,13 @@ static int64_t after_move(int64_t done, const char *name, const char *new_name)
     return done;
 }
 
+static int64_t after_mkfifo(int64_t done, const char *name)
+{
+    if (done == 0)
+        name_is_of_fifo(name);
+    return done;
+}
+
 static int64_t after_link(int64_t done, const char *name, const char *new_name)
 {
     if (done == 0)
@@ -1089,7 +1137,7 @@ static int is_fifo_made(struct going *it, int folder, const char *name)
 {
     it->way = way_in("mkfifo", folder, &name);
     it->act = fdref_act_mkfifo(name);
-    it->done = it->way == ASK ? ALONE(ask(it->act)) : 0;
+    it->done = it->way == ASK ? ALONE(after_mkfifo(ask(it->act), name)) : 0;
     return it->way == ASK;
 }
 

@@ -6,7 +6,7 @@
 static int64_t told(int64_t done, int fd, struct file *file)
 {
     file->stat = process->outcome.stat;
-    file->inode = slot_of(fd).inode;
+    file->inode = told_inode(slot_of(fd).inode);
     return done;
 }
 
@@ -285,6 +285,23 @@ SYNCS(fdatasync)
 
 /* ---- processes */
 
+/* The children that fork has made last, by the numbers of the system and their own. */
+enum { CHILDREN = 64 };
+static struct child {
+    pid_t in_system;
+    long number;
+} children[CHILDREN];
+
+static void keep_child(pid_t in_system, long number)
+{
+    static int kept;
+    for (int at = 0; at < CHILDREN; at++)
+        children[at].in_system = children[at].in_system == in_system ? 0 : children[at].in_system;
+    children[kept].in_system = in_system;
+    children[kept].number = number;
+    kept = (kept + 1) % CHILDREN;
+}
+
 /* The child is attached first, so that it has an exit of its own, however it ends. */
 static int64_t fork_asked(pid_t (*next)(void))
 {
@@ -302,6 +319,8 @@ static int64_t fork_asked(pid_t (*next)(void))
     made = next();
     error = errno;
     is_forking = 0;
+    if (made > 0)
+        keep_child(made, (long)number);
     if (made < 0)
         fdref_exit(child);
     else
@@ -325,7 +344,10 @@ static pid_t fork_natively(pid_t (*next)(void))
         own_pid = getpid();
         native_number = number;
         forget_threads();
+        note_handlers();
     }
+    if (made > 0)
+        keep_child(made, (long)number);
     if (made < 0)
         __atomic_fetch_sub(&shared->next_number, 1, __ATOMIC_SEQ_CST);
     if (made != 0)
@@ -353,13 +375,18 @@ pid_t vfork(void)
     return fork();
 }
 
-/* Notes a child that a signal ended, where its parent is told of it. */
+/* Notes a child that a signal ended, where its parent is told of it, with its number where that is known. */
 static pid_t ended_child(pid_t child, int status)
 {
-    char number[12];
+    char number[12], name[24] = "";
+    int at = 0;
+    while (at < CHILDREN && children[at].in_system != child)
+        at++;
+    if (at < CHILDREN)
+        snprintf(name, sizeof name, "p%ld", children[at].number);
     if (child > 0 && WIFSIGNALED(status)) {
         snprintf(number, sizeof number, "%d", WTERMSIG(status));
-        goes_past('-', "signal", number, NULL);
+        notes("signal", number, *name ? name : NULL);
     }
     return child;
 }

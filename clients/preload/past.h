@@ -141,6 +141,36 @@ static int fails_with(const char *kind, const char *what, const char *path, int 
 #define FAILS(type, name, parameters, words, holds, value) \
     PASSES_OR_FAILS(type, name, parameters, words, (ours = -1, (holds)) ? leave_out_ours(#name) : 0, value)
 
+/* What makes a descriptor of the system is told: it is from 32 on here, and natively the lowest that is free. */
+static int made_past(const char *what, int made)
+{
+    if (made >= NUMBERS)
+        goes_past('-', "makes", what, NULL);
+    return made;
+}
+
+#define MAKES(name, parameters, words) \
+    int name parameters \
+    { \
+        static int(*next) parameters; \
+        prepare(); \
+        find(&next, #name); \
+        return made_past(#name, next words); \
+    }
+
+/* The same of one that fails with ENOSYS where this holds. */
+#define FAILS_OR_MAKES(name, parameters, words, holds) \
+    int name parameters \
+    { \
+        static int(*next) parameters; \
+        prepare(); \
+        ours = -1; \
+        if ((holds) && leave_out_ours(#name)) \
+            return (int)fails(ENOSYS); \
+        find(&next, #name); \
+        return made_past(#name, next words); \
+    }
+
 /* ---- with names */
 
 NAMES(FILE *, fopen, (const char *path, const char *mode), (path, mode), "stream", path, NULL)
@@ -273,11 +303,34 @@ FAILS(ssize_t, vmsplice, (int fd, const struct iovec *parts, size_t count, unsig
       is_ours(fd), -1)
 FAILS(int, eventfd_read, (int fd, eventfd_t *to), (fd, to), is_ours(fd), -1)
 FAILS(int, eventfd_write, (int fd, eventfd_t value), (fd, value), is_ours(fd), -1)
-FAILS(int, signalfd, (int fd, const sigset_t *mask, int flags), (fd, mask, flags), is_ours(fd), -1)
 FAILS(int, timerfd_settime, (int fd, int flags, const struct itimerspec *time, struct itimerspec *was),
       (fd, flags, time, was), is_ours(fd), -1)
 FAILS(int, timerfd_gettime, (int fd, struct itimerspec *to), (fd, to), is_ours(fd), -1)
 FAILS(int, setns, (int fd, int kind), (fd, kind), is_ours(fd), -1)
+
+/* What makes descriptors. */
+FAILS_OR_MAKES(signalfd, (int fd, const sigset_t *mask, int flags), (fd, mask, flags), is_ours(fd))
+MAKES(socket, (int family, int type, int protocol), (family, type, protocol))
+MAKES(eventfd, (unsigned first, int flags), (first, flags))
+MAKES(epoll_create, (int size), (size))
+MAKES(epoll_create1, (int flags), (flags))
+MAKES(timerfd_create, (clockid_t clock, int flags), (clock, flags))
+MAKES(inotify_init, (void), ())
+MAKES(inotify_init1, (int flags), (flags))
+MAKES(memfd_create, (const char *name, unsigned flags), (name, flags))
+MAKES(shm_open, (const char *name, int flags, mode_t mode), (name, flags, mode))
+MAKES(posix_openpt, (int flags), (flags))
+
+int socketpair(int family, int type, int protocol, int both[2])
+{
+    NEXT_OF(socketpair);
+    int done;
+    prepare();
+    done = next(family, type, protocol, both);
+    if (done == 0 && made_past("socketpair", both[0]) >= 0)
+        made_past("socketpair", both[1]);
+    return done;
+}
 
 /* Of terminals. */
 FAILS(int, tcgetattr, (int fd, struct termios *to), (fd, to), is_ours(fd), -1)
@@ -333,7 +386,7 @@ FAILS(int, aio_cancel, (int fd, struct aiocb *request), (fd, request), is_ours(f
 FAILS(int, lio_listio, (int mode, requests list, int count, struct sigevent *event),
       (mode, list, count, event), is_listed(list, count), -1)
 
-/* ---- timers and threads */
+/* ---- timers */
 
 /* The signal of a timer comes by the time that calls take, which is another one with fdref. */
 static void starts_timer(const char *name, int is_on)
@@ -376,6 +429,34 @@ int timer_settime(timer_t timer, int flags, const struct itimerspec *time, struc
     starts_timer("timer_settime", time && (time->it_value.tv_sec != 0 || time->it_value.tv_nsec != 0));
     return next(timer, flags, time, was);
 }
+
+/* ---- handlers of signals */
+
+typedef void (*handler)(int);
+
+/* What changes how a signal is handled: that is noted as it is then. */
+#define HANDLES(type, name, parameters, words, number, is_changed) \
+    type name parameters \
+    { \
+        static type(*next) parameters; \
+        type given; \
+        prepare(); \
+        find(&next, #name); \
+        given = next words; \
+        if (is_changed) \
+            note_handler(number); \
+        return given; \
+    }
+HANDLES(int, sigaction, (int number, const struct sigaction *to, struct sigaction *was), (number, to, was), number,
+        to != NULL)
+HANDLES(handler, signal, (int number, handler to), (number, to), number, 1)
+HANDLES(handler, bsd_signal, (int number, handler to), (number, to), number, 1)
+HANDLES(handler, __sysv_signal, (int number, handler to), (number, to), number, 1)
+HANDLES(handler, sigset, (int number, handler to), (number, to), number, 1)
+HANDLES(int, sigignore, (int number), (number), number, 1)
+HANDLES(int, siginterrupt, (int number, int ends), (number, ends), number, 1)
+
+/* ---- threads */
 
 /* A thread that waits in a call of fdref is not cancelled before the call has come to an end. */
 int pthread_cancel(pthread_t thread)
@@ -544,6 +625,11 @@ FAILS(int, daemon, (int keeps_folder, int keeps_files), (keeps_folder, keeps_fil
 /* ---- the names that only Linux and glibc have */
 
 #ifdef __GLIBC__
+HANDLES(int, __sigaction, (int number, const struct sigaction *to, struct sigaction *was), (number, to, was), number,
+        to != NULL)
+HANDLES(handler, sysv_signal, (int number, handler to), (number, to), number, 1)
+HANDLES(handler, ssignal, (int number, handler to), (number, to), number, 1)
+
 int execvpe(const char *path, char *const list[], char *const env[])
 {
     return run(sought("execvpe", path), list, env);
@@ -667,9 +753,9 @@ NAMES(char *, __realpath_chk, (const char *path, char *to, size_t room), (path, 
 FAILS(int, bind, (int fd, __CONST_SOCKADDR_ARG address, socklen_t size), (fd, address, size), is_ours(fd), -1)
 FAILS(int, connect, (int fd, __CONST_SOCKADDR_ARG address, socklen_t size), (fd, address, size), is_ours(fd), -1)
 FAILS(int, __connect, (int fd, __CONST_SOCKADDR_ARG address, socklen_t size), (fd, address, size), is_ours(fd), -1)
-FAILS(int, accept, (int fd, __SOCKADDR_ARG address, socklen_t *size), (fd, address, size), is_ours(fd), -1)
-FAILS(int, accept4, (int fd, __SOCKADDR_ARG address, socklen_t *size, int flags), (fd, address, size, flags),
-      is_ours(fd), -1)
+FAILS_OR_MAKES(accept, (int fd, __SOCKADDR_ARG address, socklen_t *size), (fd, address, size), is_ours(fd))
+FAILS_OR_MAKES(accept4, (int fd, __SOCKADDR_ARG address, socklen_t *size, int flags), (fd, address, size, flags),
+               is_ours(fd))
 FAILS(int, getsockname, (int fd, __SOCKADDR_ARG address, socklen_t *size), (fd, address, size), is_ours(fd), -1)
 FAILS(int, getpeername, (int fd, __SOCKADDR_ARG address, socklen_t *size), (fd, address, size), is_ours(fd), -1)
 FAILS(ssize_t, __send, (int fd, const void *data, size_t count, int flags), (fd, data, count, flags), is_ours(fd), -1)
@@ -746,6 +832,7 @@ FAILS(int, posix_spawn_file_actions_addtcsetpgrp_np, (posix_spawn_file_actions_t
       is_ours(fd), ENOSYS)
 #endif
 #if __GLIBC_PREREQ(2, 36)
+MAKES(pidfd_open, (pid_t which, unsigned flags), (which, flags))
 FAILS(int, pidfd_getfd, (int process_fd, int fd, unsigned flags), (process_fd, fd, flags), is_ours(process_fd), -1)
 FAILS(int, pidfd_send_signal, (int process_fd, int number, siginfo_t *more, unsigned flags),
       (process_fd, number, more, flags), is_ours(process_fd), -1)

@@ -159,7 +159,10 @@ long syscall(long number, ...)
         return done;
     if (how == ASKED && raw && is_told(raw, given) && fails_raw(raw, given))
         return (long)fails(ENOSYS);
-    return next(number, given[0], given[1], given[2], given[3], given[4], given[5]);
+    done = next(number, given[0], given[1], given[2], given[3], given[4], given[5]);
+    if (number == SYS_rt_sigaction && given[1] != 0)
+        note_handler((int)given[0]);
+    return done;
 }
 
 /* Its child is no process of fdref, and may make none of its calls. */

@@ -25,7 +25,7 @@ static void map_shared(void)
 /* Makes the file, which is zeros, for a first process and all that come of it. */
 static void begin_sharing(void)
 {
-    int made = memfd_create("fdref-preload", MFD_CLOEXEC);
+    int made = (int)system_syscall(SYS_memfd_create, "fdref-preload", (long)MFD_CLOEXEC);
     if (made < 0 || system_syscall(SYS_ftruncate, (long)made, (long)sizeof *shared) != 0)
         end_with(NO_ANSWER, "no shared memory: %s", strerror(errno));
     shared_file = hidden(made);
@@ -74,6 +74,19 @@ static uint64_t inode_of_name(const char *name)
     made = number_of_name(name, __atomic_load_n(&at->times, __ATOMIC_SEQ_CST));
     __atomic_compare_exchange_n(&at->inode, &found, made, 0, __ATOMIC_SEQ_CST, __ATOMIC_SEQ_CST);
     return found ? found : made;
+}
+
+/* The numbers of FIFOs have this bit, which st_ino does not tell. */
+static const uint64_t fifo_bit = UINT64_C(1) << 62;
+
+static uint64_t told_inode(uint64_t inode) { return inode & ~fifo_bit; }
+
+/* A new name leads to a FIFO. */
+static void name_is_of_fifo(const char *name)
+{
+    struct named *at = named_of(name);
+    if (at)
+        __atomic_store_n(&at->inode, inode_of_name(name) | fifo_bit, __ATOMIC_SEQ_CST);
 }
 
 /* A name leads to no file any more. */

@@ -71,6 +71,11 @@ static int system_dup3(int fd, int to, int flags)
     return (int)system_syscall(SYS_dup3, (long)fd, (long)to, (long)flags);
 }
 
+static int system_socket(int family, int type, int protocol)
+{
+    return (int)system_syscall(SYS_socket, (long)family, (long)type, (long)protocol);
+}
+
 /* In the function of a name: the one of that name that comes after this library. */
 #define NEXT_OF(name) \
     static __typeof__(&name) next; \
@@ -81,6 +86,7 @@ static int system_dup3(int fd, int to, int flags)
 #define close system_close
 #define write system_write
 #define fcntl system_fcntl
+#define socket(family, type, protocol) system_socket(family, type, protocol)
 #define poll(parts, count, ms) system_poll(parts, count, ms)
 #define recv(socket, to, size, flags) heard(socket, to, size, flags)
 static ssize_t heard(int socket, void *to, size_t size, int flags);
@@ -92,6 +98,7 @@ static ssize_t heard(int socket, void *to, size_t size, int flags);
 #undef close
 #undef write
 #undef fcntl
+#undef socket
 #undef poll
 #undef recv
 
@@ -205,6 +212,25 @@ static void goes_past_natively(char mark, const char *kind, const char *what)
 {
     if (how == NATIVE)
         note_past(mark, 0, native_number, kind, what, NULL);
+}
+
+static int64_t log_length(void);
+
+/* Notes what has to do with a signal in both runs. A native one has the length of its log in the place of the place. */
+static void notes(const char *kind, const char *what, const char *of)
+{
+    if (how == NATIVE)
+        note_past('-', (uint64_t)log_length(), native_number, kind, what, of);
+    else
+        goes_past('-', kind, what, of);
+}
+
+/* Notes how a signal is handled from now on; 0 stands for all signals. */
+static void note_handling(int number, const char *how_handled)
+{
+    char text[12];
+    snprintf(text, sizeof text, "%d", number);
+    notes("handler", text, how_handled);
 }
 
 /* What fdref leaves out ends a program that has to be strict. */
@@ -478,11 +504,17 @@ static int64_t seek_by(int fd, int whence)
 static int tells_starts;
 static __thread int64_t began;
 
+static int64_t log_length(void)
+{
+    int64_t length = log_file >= 0 ? seek_by(log_file, SEEK_END) : 0;
+    return length > 0 ? length : 0;
+}
+
 static void begin_call(void)
 {
     int error = errno;
-    if (how == NATIVE && tells_starts && log_file >= 0)
-        began = seek_by(log_file, SEEK_END);
+    if (how == NATIVE && tells_starts)
+        began = log_length();
     errno = error;
 }
 

@@ -371,7 +371,7 @@ static int64_t look_by_name(const char *name, struct file *file)
 {
     struct fdref_stat fifo = {FDREF_KIND_FIFO, 0, 1};
     int fd = (int)ask_aside(fdref_act_open(name, O_RDWR), NULL, NUMBERS);
-    file->inode = inode_of_name(name);
+    file->inode = told_inode(inode_of_name(name));
     file->stat = fifo;
     if (fd < 0)
         return is_fifo(name) ? 0 : -1;
@@ -379,6 +379,43 @@ static int64_t look_by_name(const char *name, struct file *file)
     file->stat = process->outcome.stat;
     ask_aside(fdref_act_close(fd), NULL, 0);
     return 0;
+}
+
+/* ---- handlers of signals
+
+   A signal without a handler ends no call. One may end a call that waits, unless it restarts that, and cut a write
+   short in either way. */
+
+/* How each signal is handled, as this program has set it: by no handler, one that ends calls, or one that restarts. */
+enum handling { NO_HANDLER, ENDS_CALLS, RESTARTS };
+static enum handling handlings[NSIG];
+static const char *const told_handlings[] = {"none", "ends", "restarts"};
+
+static enum handling handling_of(int number)
+{
+    struct sigaction now;
+    if (sigaction(number, NULL, &now) != 0 || now.sa_handler == SIG_DFL || now.sa_handler == SIG_IGN)
+        return NO_HANDLER;
+    return (now.sa_flags & SA_RESTART) != 0 ? RESTARTS : ENDS_CALLS;
+}
+
+/* Notes how a signal is handled, where that has changed. */
+static void note_handler(int number)
+{
+    int error = errno;
+    if ((how == ASKED || how == NATIVE) && number > 0 && number < NSIG && handling_of(number) != handlings[number]) {
+        handlings[number] = handling_of(number);
+        note_handling(number, told_handlings[handlings[number]]);
+    }
+    errno = error;
+}
+
+/* A native child has the handlers of its parent. */
+static void note_handlers(void)
+{
+    for (int number = 1; number < NSIG; number++)
+        if (handlings[number] != NO_HANDLER)
+            note_handling(number, told_handlings[handlings[number]]);
 }
 
 /* ---- beginning and ending */
@@ -534,6 +571,8 @@ static int take_over(char *at)
         blank = hidden(system_open("/dev/null", O_PATH | O_CLOEXEC, 0));
     }
     hand_files(FD_CLOEXEC);
+    if (how == NATIVE)
+        note_handling(0, told_handlings[NO_HANDLER]);
     for (int fd = 0; fd < NUMBERS; fd++) {
         struct slot slot = {FREE, 0, 0, 0};
         slot.held = (enum held)next_of(&at, 10);
@@ -591,6 +630,8 @@ static void prepare(void)
         join();
     if (how == ASKED || how == NATIVE)
         end_at_last();
+    for (int number = 1; number < NSIG; number++)
+        note_handler(number);
     errno = error;
 }
 

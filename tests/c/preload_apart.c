@@ -80,6 +80,26 @@ static int start_timers(void)
     return failures > 0;
 }
 
+/* Handlers are set, and a child has them, until it begins another program. */
+#pragma GCC diagnostic ignored "-Wdeprecated-declarations"
+static int set_handlers(void)
+{
+    struct sigaction action;
+    pid_t child;
+    memset(&action, 0, sizeof action);
+    action.sa_handler = tell;
+    CHECK(signal(SIGUSR1, tell) == SIG_DFL && siginterrupt(SIGUSR1, 1) == 0 && signal(SIGPIPE, SIG_IGN) == SIG_DFL);
+    CHECK(sigaction(SIGUSR2, &action, NULL) == 0 && sigaction(SIGUSR2, &action, NULL) == 0);
+    CHECK(sigaction(SIGUSR2, NULL, &action) == 0 && signal(SIGUSR2, SIG_IGN) == tell);
+    child = fork();
+    if (child == 0) {
+        execl("/proc/self/exe", "preload_apart", "no word", (char *)NULL);
+        _exit(1);
+    }
+    CHECK(status_of(child) == 99);
+    return failures > 0;
+}
+
 /* ---- threads */
 
 static void *seek_often(void *given)
@@ -233,6 +253,7 @@ int main(int count, char **words)
     if (strcmp(word, "signals") == 0) return hear_between();
     if (strcmp(word, "a signal within a call") == 0) return hear_within();
     if (strcmp(word, "timers") == 0) return start_timers();
+    if (strcmp(word, "handlers") == 0) return set_handlers();
     if (strcmp(word, "cancelled too late") == 0) return cancel(seek_often, bytes);
     if (strcmp(word, "cancelled") == 0) return cancel(write_on, PTHREAD_CANCELED);
     if (strcmp(word, "cancelled while it waits") == 0) return cancel_waiting();

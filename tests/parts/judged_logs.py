@@ -8,8 +8,8 @@ from typing import NamedTuple
 from unittest import mock
 
 from support.counting import Case, Failure, require, same
-from support.frames import trace_of
-from support.plain_model import DEFAULTS
+from support.frames import header_bytes, trace_of
+from support.plain_model import DEFAULTS, Limits
 from support.trees import Ended
 
 import causes
@@ -34,6 +34,9 @@ class Logs(NamedTuple):
     fdref_ends: Ended = WELL
     # what a finding without a reason is perhaps by
     cause: str = ""
+    # what was noted of the run on the system
+    noted: str = ""
+    capacity: int = DEFAULTS.capacity
 
 
 A_FILE = "0 p0 join = 0; 1 p0 open a rw,creat,append = 0; 2 p0 write 0 x6162 = 2; "
@@ -44,7 +47,35 @@ APPENDS = "pwrite under O_APPEND appends"
 NAMES = "names that the profile does not take"
 LINKS = "size and links of a pipe in fstat"
 ROOM = "room of a pipe"
-EINTR = "a signal ends a call (EINTR), and signals are outside fdref"
+EINTR = "a signal ends a call (EINTR): signal 14 (SIGALRM) has a handler"
+CUT = "a signal cuts a write short: signal 14 (SIGALRM) has a handler"
+TURNED = "O_NONBLOCK is set while a call waits"
+# The line of the read begins in its log, as the call itself, after 18 bytes.
+A_READ_ENDS = (
+    "-@0 p0 pipe = 0 1; -@18 p0 read 0 1 = error EINTR",
+    "0 p0 join = 0; 1 p0 pipe = 0 1; 2 p0 read 0 1 = parked 0",
+)
+IS_EINTR, IS_NONE = (["p0 read 0 1: error EINTR, parked 0: " + it] for it in (EINTR, "none"))
+# What is noted of handlers before, in and after the read, and whether that may be why it ended.
+HANDLERS = (
+    ("that is set before", "- 0 p0 handler 14\tends", True),
+    ("that is set while it waits", "- 18 p0 handler 14\tends", True),
+    ("that is set after it", "- 49 p0 handler 14\tends", False),
+    ("that restarts it", "- 0 p0 handler 14\trestarts", False),
+    ("that is taken away before", "- 0 p0 handler 14\tends; - 5 p0 handler 14\tnone", False),
+    ("that is taken away while it waits", "- 0 p0 handler 14\tends; - 18 p0 handler 14\tnone", True),
+    ("of the program before an exec", "- 0 p0 handler 14\tends; - 18 p0 handler 0\tnone", False),
+    ("of another process", "- 0 p1 handler 14\tends", False),
+)
+A_WRITE_IS_CUT = (
+    "p0 pipe = 0 1; p0 write 1 61*65000 = 40000",
+    "0 p0 join = 0; 1 p0 pipe = 0 1; 2 p0 write 1 61*65000 = parked 1024",
+)
+# The write begins after 35 bytes.
+WAITS_NO_MORE = (
+    "-@0 p0 pipe = 0 1; -@18 p0 fork = 1; {}; p1 read 0 1 = x61",
+    A_PIPE + "4 p0 write 1 61*9000 = parked 1024; 5 p1 setfl 1 w,nonblock = ok; 6 p1 read 0 1 = x61",
+)
 FULL = "0 p0 join = 0; 1 p0 pipe = 0 1; 2 p0 setfl 1 r,nonblock = ok; 3 p0 write 1 61*2000 = 1024; "
 
 LOGS = [
@@ -186,23 +217,76 @@ LOGS = [
             "p0 open c r,creat: 1, 0: follows",
         ],
     ),
-    Logs(
-        "a signal that ends a call",
-        "p0 pipe = 0 1; p0 read 0 1 = error EINTR",
-        "0 p0 join = 0; 1 p0 pipe = 0 1; 2 p0 read 0 1 = parked 0",
-        [f"p0 read 0 1: error EINTR, parked 0: {EINTR}"],
-        fdref_ends=KILLED,
-    ),
+    *[
+        Logs(
+            f"an EINTR, and a handler {when}",
+            *A_READ_ENDS,
+            IS_EINTR if is_why else IS_NONE,
+            fdref_ends=KILLED,
+            noted=noted,
+        )
+        for when, noted, is_why in HANDLERS
+    ],
+    Logs("an EINTR without a handler", *A_READ_ENDS, IS_NONE, fdref_ends=KILLED),
     Logs(
         "a signal that no page lets end a call",
-        "p0 open a rw,creat = 0; p0 lseek 0 0 set = error EINTR; p0 unlink a = error EINTR; p0 ftruncate 0 1 = error EINTR",
+        "p0 open a rw,creat = 0; p0 lseek 0 0 set = error EINTR; p0 unlink a = error EINTR; "
+        "p0 ftruncate 0 1 = error EINTR",
         "0 p0 join = 0; 1 p0 open a rw,creat = 0; 2 p0 lseek 0 0 set = 0; 3 p0 unlink a = ok; 4 p0 ftruncate 0 1 = ok",
         [
             "p0 lseek 0 0 set: error EINTR, 0: none",
             "p0 unlink a: error EINTR, ok: none",
             f"p0 ftruncate 0 1: error EINTR, ok: {EINTR}",
         ],
+        noted="- 0 p0 handler 14\tends",
     ),
+    *[
+        Logs(
+            f"a write that waits, of which the system takes a part: {noted}",
+            *A_WRITE_IS_CUT,
+            [f"p0 write 1 61*65000: 40000, parked 1024: {CUT if noted.endswith('s') else 'none'}"],
+            fdref_ends=KILLED,
+            noted=noted,
+        )
+        for noted in ("- 0 p0 handler 14\tends", "- 0 p0 handler 14\trestarts", "- 0 p1 handler 14\tnone", "")
+    ],
+    *[
+        Logs(
+            f"nothing of the rest of a large write, or of a write: {place}, {noted}",
+            f"-@0 p0 pipe = 0 1; -@18 p0 write 1 61*65536 = 65536; {place} p0 write 1 61*99 = 0",
+            "0 p0 join = 0; 1 p0 pipe = 0 1; 2 p0 write 1 61*65536 = 65536; 3 p0 write 1 61*99 = parked 0",
+            [f"p0 write 1 61*99: 0, parked 0: {CUT if place == '-@18' and noted else 'none'}"],
+            fdref_ends=KILLED,
+            noted=noted,
+            capacity=65_536,
+        )
+        for place, noted in (
+            ("-@18", "- 0 p0 handler 14\trestarts"),
+            ("-@18", ""),
+            ("-@56", "- 0 p0 handler 14\trestarts"),
+        )
+    ],
+    Logs(
+        "a short write that goes in whole or not at all, by its page",
+        "p0 pipe = 0 1; p0 write 1 61*512 = 511",
+        "0 p0 join = 0; 1 p0 pipe = 0 1; 2 p0 write 1 61*512 = 512",
+        ["p0 write 1 61*512: 511, 512: none"],
+        noted="- 0 p0 handler 14\tends",
+    ),
+    *[
+        Logs(
+            f"a write that waits, of which the system takes a part: O_NONBLOCK is set {when}",
+            WAITS_NO_MORE[0].format("; ".join(lines)),
+            WAITS_NO_MORE[1],
+            [f"p0 write 1 61*9000: 1024, parked 1024: {reason}"],
+            fdref_ends=KILLED,
+        )
+        for when, lines, reason in (
+            ("meanwhile", ("-@35 p1 setfl 1 w,nonblock = ok", "-@35 p0 write 1 61*9000 = 1024"), TURNED),
+            ("before", ("-@35 p1 setfl 1 w,nonblock = ok", "-@67 p0 write 1 61*9000 = 1024"), "none"),
+            ("after it", ("-@35 p0 write 1 61*9000 = 1024", "-@66 p1 setfl 1 w,nonblock = ok"), "none"),
+        )
+    ],
     Logs(
         "flags and names that are the same",
         "p0 open a rw,creat = 0; p0 setfl 0 rw,append = ok; p0 getfl 0 = 35; p0 rename a b = ok; "
@@ -409,6 +493,11 @@ def logged(lines: list[str]) -> list[str]:
     return told
 
 
+def native_lines(text: str) -> list[str]:
+    """The lines of a log of the system, which may have their place."""
+    return [line if line[:1] == "-" else f"- {line}" for line in lines_of(text)]
+
+
 def as_bytes(lines: list[str]) -> bytes:
     """Lines as a log has them."""
     return "".join(f"{line}\n" for line in lines).encode()
@@ -432,12 +521,14 @@ def found_in(verdict: judge.Verdict) -> list[str]:
 def are_found(logs: Logs) -> None:
     """Just what the table says is found in two logs."""
     trace = lines_of(logs.fdref)
-    system = as_bytes([f"- {line}" for line in lines_of(logs.system)])
-    both = judge.Both(logs.system_ends, logs.fdref_ends, system, as_bytes(logged(trace)), trace_of(trace))
-    verdict = judge.Verdict(both, f"legal {len(trace)} rest 0")
+    system = as_bytes(native_lines(logs.system))
+    noted, fdref = as_bytes(lines_of(logs.noted)), as_bytes(logged(trace))
+    ends = logs.system_ends, logs.fdref_ends
+    frames = trace_of(trace, header_bytes(limits=Limits(capacity=logs.capacity)))
+    verdict = judge.Verdict(judge.Both(*ends, system, fdref, frames, system_past=noted), f"legal {len(trace)} rest 0")
     same(logs.found, found_in(verdict))
     unexplained = any(text.endswith(": none") for text in logs.found)
-    wanted = 1 if unexplained and not logs.cause else 3 if logs.system_ends != logs.fdref_ends else 0
+    wanted = 1 if unexplained and not logs.cause else 3 if logs.found or logs.system_ends != logs.fdref_ends else 0
     has_ended = logs.system_ends.status is not None or logs.fdref_ends.status is not None
     same(3 if logs.cause or not has_ended else wanted, verdict.status())
     require(judge.told_verdict(verdict).endswith(f", perhaps by {logs.cause}" if logs.cause else ""), str(logs.cause))
@@ -463,7 +554,7 @@ NO_ORDER = "no order of these calls gives all answers of the system"
 OPEN_ORDER = f"not decided whether {AN_ORDER}: "
 KEPT = "signal 15, by which a child ended that fdref may have kept for longer"
 NOT_DECIDED = "not decided is whether the order of the calls explains it"
-LESS = "no fault found, which is less than agreement: "
+SMALL_ROOM = f"{ROOM}, of which fdref's has 1,024 bytes (--pipe-capacity 65536)"
 TWO = "p0 pipe = 0 1; p0 fork = 1; p0 fork = 2; "
 TWO_HERE = "0 p0 join = 0; 1 p0 pipe = 0 1; 2 p0 fork = 1; 3 p1 attach = ok; 4 p0 fork = 2; 5 p2 attach = ok; "
 WRITES_HERE = "6 p1 write 1 x6161 = 2; 7 p2 write 1 x6262 = 2; 8 p0 read 0 9 = x61616262"
@@ -540,8 +631,9 @@ ORDERS = [
         "p0 pipe = 0 1; p0 fork = 1; p1 write 1 61*2000 = 2000; p0 read 0 9000 = 61*2000",
         A_PIPE + "4 p1 write 1 61*2000 = parked 1024; 5 p0 read 0 9000 = 61*1024; 6 p1 resume = 2000",
         f"reason: {AN_ORDER}, where a pipe holds 65,536 bytes: room of a pipe",
-        f"agreement: {AN_ORDER}, where a pipe holds 65,536 bytes: room of a pipe (own; page of write)",
-        0,
+        f"not judged: {AN_ORDER}, where a pipe holds 65,536 bytes: room of a pipe (own; page of write); "
+        "fdref's has 1,024 (--pipe-capacity 65536)",
+        3,
     ),
     Orders(
         "a child whose lines come before that of its fork",
@@ -585,8 +677,8 @@ ORDERS = [
         "-@78 p0 read 0 9 = error EAGAIN; -@77 p0 read 0 9 = x61",
         A_PIPE + "4 p0 setfl 0 r,nonblock = ok; " + READS_HERE,
         f"{OPEN_ORDER}a call was made within another one",
-        f"{LESS}2 answers differ with a reason; {NOT_DECIDED}",
-        0,
+        f"not judged: 2 answers differ with a reason: {OF_TIME}; {NOT_DECIDED}",
+        3,
     ),
     Orders(
         "another difference that has a reason",
@@ -595,8 +687,8 @@ ORDERS = [
         "6 p0 open a%20b r,creat = error EINVAL; 7 p1 open l w,creat,excl = 2; "
         "8 p2 open l w,creat,excl = error EEXIST",
         f"reason: {OTHERS}",
-        f"{LESS}1 answer differs with a reason; {OTHERS}",
-        0,
+        f"not judged: 1 answer differs with a reason: {NAMES}; {OTHERS}",
+        3,
     ),
     Orders(
         "what went past fdref may be why there is no order",
@@ -612,8 +704,8 @@ ORDERS = [
         TWO + "p1 write 1 x6161 = 2; p2 write 1 x6262 = 2; p0 read 0 9 = x61626261",
         TWO_HERE + WRITES_HERE,
         f"{OPEN_ORDER}none was found, but a process that was killed may be why",
-        f"{LESS}1 answer differs with a reason; {NOT_DECIDED}",
-        0,
+        f"not judged: 1 answer differs with a reason: {OF_TIME}; {NOT_DECIDED}",
+        3,
         "- 8 p0 signal 9",
     ),
     Orders(
@@ -679,16 +771,25 @@ ORDERS = [
         "p0 pipe = 0 1; -1 p0 read 0 1 = error EINTR",
         "0 p0 join = 0; 1 p0 pipe = 0 1; 2 p0 read 0 1 = parked 0",
         OTHERS,
-        f"{LESS}1 answer differs with a reason; {OTHERS}",
-        0,
+        f"not judged: 1 answer differs with a reason: {EINTR}; {OTHERS}",
+        3,
+        cuts="- 0 p0 handler 14\tends",
+    ),
+    Orders(
+        "a thread whose only call ends without a signal",
+        "p0 pipe = 0 1; -1 p0 read 0 1 = error EINTR",
+        "0 p0 join = 0; 1 p0 pipe = 0 1; 2 p0 read 0 1 = parked 0",
+        NO_ORDER,
+        f"a difference: {NO_ORDER}",
+        1,
     ),
     Orders(
         "one process",
         "p0 pipe = 0 1; p0 setfl 1 r,nonblock = ok; p0 write 1 61*2000 = 2000; p0 read 0 2000 = 61*2000",
         f"{FULL}4 p0 read 0 2000 = 61*1024",
         "",
-        f"{LESS}1 answer differs with a reason, 1 later answer was not judged",
-        0,
+        f"not judged: 1 answer differs with a reason: {SMALL_ROOM}, 1 later answer was not judged",
+        3,
     ),
 ]
 
@@ -696,14 +797,16 @@ ORDERS = [
 def is_ordered(program: str, orders: Orders) -> None:
     """Just this is said of the order of the calls, and as the last line."""
     trace = lines_of(orders.fdref)
-    system = as_bytes([line if line[:1] == "-" else f"- {line}" for line in lines_of(orders.system)])
+    system = as_bytes(native_lines(orders.system))
     noted, cuts = as_bytes(lines_of(orders.past)), as_bytes(lines_of(orders.cuts))
     both = judge.Both(WELL, WELL, system, as_bytes(logged(trace)), trace_of(trace), noted, system_past=cuts)
     verdict = judge.Verdict(both, f"legal {len(trace)} rest 0", program=[program])
     said = judge.told(verdict, 60, 0).splitlines()
     lines = [line for line in said if "order of these calls" in line]
     require(all(line.startswith(orders.order) for line in lines) and bool(lines) == bool(orders.order), "\n".join(said))
-    same((f"verdict: {orders.verdict}", orders.status), ending(verdict))
+    is_open = orders.order.startswith(OPEN_ORDER)
+    said = f": {lines[0].removeprefix(OPEN_ORDER)}" if is_open else ""
+    same((f"verdict: {orders.verdict}{said}", orders.status), ending(verdict))
 
 
 def order_cases(program: str) -> Iterator[Case]:
@@ -746,6 +849,12 @@ def tells_signals() -> None:
         same(is_told, told in said)
 
 
+GIVEN_UP = (
+    "given up after 4 states, or 20 seconds: fewer processes, threads or calls at once may decide it, or --search N "
+    "seconds"
+)
+
+
 def gives_up() -> None:
     """A search for an order that takes too many states is given up, which decides nothing."""
     orders = ORDERS[1]
@@ -758,8 +867,8 @@ def gives_up() -> None:
         verdict = judge.Verdict(both, f"legal {len(trace)} rest 0", program=["false"])
     finally:
         some_order.STATES_MOST, some_order.STATES_LEAST = before
-    require(f"{OPEN_ORDER}given up after 4 states" in judge.told(verdict, 60, 0), judge.told(verdict, 60, 0))
-    same((f"verdict: not judged: 1 answer differs without a reason; {NOT_DECIDED}", 3), ending(verdict))
+    require(f"{OPEN_ORDER}{GIVEN_UP}" in judge.told(verdict, 60, 0), judge.told(verdict, 60, 0))
+    same((f"verdict: not judged: 1 answer differs without a reason; {NOT_DECIDED}: {GIVEN_UP}", 3), ending(verdict))
 
 
 def ending(verdict: judge.Verdict) -> tuple[str, int]:
@@ -863,6 +972,8 @@ MOVED = "p0 open log rw,creat = 0; p0 rename log b = ok; p0 open b r = 1; p0 rea
 OTHER_NAME = "p0 open a rw,creat = 0; p0 rename a b = ok; p0 open b r = 1; p0 read 1 9 = {}"
 TWO_MADE = "! 0 p0 made 3; ! 0 p0 made 4"
 MADE = "descriptor 3, which is open, and no call that fdref knows made it"
+MAKES = "socket, whose descriptor has a low number natively"
+OF_HANDLER = causes.HANDLED.format("signal 10 (SIGUSR1)")
 
 CAUSES = [
     Causes("the same path", "! 1 p0 path truncate\td/a; ! 1 p0 path unlink\td/b", "truncate of d/a"),
@@ -896,6 +1007,8 @@ CAUSES = [
     Causes("a symbolic link", "! 1 p0 path symlink\tc", "symlink of c"),
     Causes("a number, and a stream", "- 0 p0 stream fopen\t/x", "fopen of /x", A_NUMBER, TWO_NUMBERS),
     Causes("no number free, and a stream", "- 0 p0 stream fopen\t/x", "fopen of /x", NEXT, ("error EMFILE", "1")),
+    Causes("a number, and a socket", "- 0 p0 makes socket", MAKES, A_NUMBER, TWO_NUMBERS, MAKES),
+    Causes("no number, and a socket", "- 0 p0 makes socket", ""),
     Causes("a number, and a file that both open", "! 0 p0 path open\t/x", "", A_NUMBER, TWO_NUMBERS),
     Causes("a number that is made otherwise", "", MADE, A_NUMBER, TWO_NUMBERS, MADE, TWO_MADE),
     Causes("a number of a stream", "- 0 p0 stream fopen\t/x", "fopen of /x", A_NUMBER, TWO_NUMBERS, made=TWO_MADE),
@@ -927,6 +1040,80 @@ def is_blamed(causes: Causes) -> None:
     same((by_it, 3) if causes.told else (f"verdict: a difference: {differs}", 1), ending(verdict))
 
 
+A_FULL_PIPE = "p0 pipe = 0 1; p0 setfl 1 w,nonblock = ok; p0 write 1 {} = {}; p0 write 1 {} = {}"
+AGAIN = "error EAGAIN"
+# Two writes to a pipe that does not wait, what the system answers, what fdref does, how many bytes its pipes hold and
+# those of the system, and the status.
+ROOMS = [
+    ("61*600", ("600", "61*600", "600"), ("600", "61*600", AGAIN), 1_024, 65_536, 3),
+    ("61*600", ("600", "61*600", AGAIN), ("600", "61*600", AGAIN), 1_024, 65_536, 0),
+    ("61*600", ("600", "61*400", AGAIN), ("600", "61*400", "400"), 1_024, 65_536, 1),
+    ("61*600", ("600", "61*400", AGAIN), ("600", "61*400", "400"), 1_024, None, 3),
+    ("61*600", ("600", "61*400", AGAIN), ("600", "61*400", "400"), 65_536, 65_536, 1),
+    ("61*40000", ("40000", "61*9000", AGAIN), ("40000", "61*9000", "9000"), 65_536, 65_536, 3),
+    ("61*40000", ("40000", "61*30000", "30000"), ("40000", "61*30000", "25536"), 65_536, 65_536, 1),
+    ("61*40000", ("40000", "61*30000", "30000"), ("40000", "61*30000", "25536"), 65_536, None, 3),
+]
+
+
+def is_of_room(
+    first: str, system: Sequence[str], fdref: Sequence[str], capacity: int, room: int | None, status: int
+) -> None:
+    """That a pipe of the system has another room is a reason only where that can be, as far as it is known."""
+    calls = lines_of(A_FULL_PIPE.format(first, *fdref))
+    trace = ["0 p0 join = 0", *(f"{at} {line}" for at, line in enumerate(calls, 1))]
+    lines = as_bytes([f"- {line}" for line in lines_of(A_FULL_PIPE.format(first, *system))])
+    frames = trace_of(trace, header_bytes(limits=Limits(capacity=capacity)))
+    verdict = judge.Verdict(judge.Both(WELL, WELL, lines, as_bytes(logged(trace)), frames), "legal 5 rest 0", room=room)
+    same(status, verdict.status())
+    sizes = f"fdref's has {capacity:,} bytes and the system's 65,536 (--pipe-capacity 65536)"
+    is_told = f": {ROOM}, of which {sizes}" in judge.told_verdict(verdict)
+    same(status == 3 and room is not None and room != capacity, is_told)
+
+
+MORE_CALLS = "p0 fork = 1; p1 close 7 = error EBADF"
+MORE_HERE = "0 p0 join = 0; 1 p0 fork = 1; 2 p1 attach = ok; 3 p1 close 7 = error EBADF; 4 p1 close 8 = error EBADF"
+OTHER_CALL = "p0 close 7 = error EBADF; p0 close 8 = error EBADF"
+OTHER_HERE = "0 p0 join = 0; 1 p0 close 7 = error EBADF; 2 p0 close 9 = error EBADF"
+LOOKED_HERE = "0 p0 join = 0; 1 p0 close 7 = error EBADF; 2 p0 open a rw = error ENOENT; 3 p0 close 9 = error EBADF"
+KILLED_BY_9 = causes.KILLED.format("signal 9 (SIGKILL)")
+# Two logs in which a process makes other calls, what was noted of both runs, and what that is perhaps by.
+WAYS = [
+    (MORE_CALLS, MORE_HERE, "- 1 p0 signal 9\tp1", "", KILLED_BY_9),
+    (MORE_CALLS.replace("1", "3"), MORE_HERE, "", "- 17 p0 signal 9\tp3", KILLED_BY_9),
+    (MORE_CALLS, MORE_HERE, "- 1 p0 signal 9\tp2", "- 17 p0 signal 9\tp3", causes.NUMBERS),
+    (OTHER_CALL, OTHER_HERE, "- 1 p0 signal 9\tp0", "", causes.NUMBERS),
+    (OTHER_CALL, OTHER_HERE, "- 1 p0 handler 10\tends", "", f"{OF_HANDLER} or {causes.NUMBERS}"),
+    (OTHER_CALL, OTHER_HERE, "- 1 p0 handler 10\tnone", "", causes.NUMBERS),
+    (OTHER_CALL, OTHER_HERE, "- 2 p0 handler 10\tends", "", causes.NUMBERS),
+    (OTHER_CALL, OTHER_HERE, "- 1 p0 makes socket", "", MAKES),
+    (OTHER_CALL, LOOKED_HERE, "", "", f"{causes.NUMBERS}, or {causes.LOOKED}"),
+    (OTHER_CALL.replace("close 8", "getfl 8"), LOOKED_HERE, "", "", causes.LOOKED),
+]
+
+
+def goes_another_way(system: str, fdref: str, noted: str, native: str, cause: str) -> None:
+    """Where a process makes other calls, it is said what that is perhaps by."""
+    trace, lines = lines_of(fdref), as_bytes(native_lines(system))
+    log = as_bytes([line for line in logged(trace) if " open " not in line])
+    notes = [as_bytes(lines_of(text)) for text in (noted, native)]
+    both = judge.Both(WELL, WELL, lines, log, trace_of(trace), notes[0], system_past=notes[1])
+    said = f"verdict: not judged: 1 answer differs without a reason, perhaps by {cause}"
+    same((said, 3), ending(judge.Verdict(both, "legal 5 rest 0")))
+
+
+def tells_looks() -> None:
+    """That the answers of stat and access have no line, and so are not compared, is told."""
+    trace = lines_of(LOOKED_HERE)
+    system = as_bytes([f"- {line}" for line in lines_of("p0 close 7 = error EBADF; p0 close 9 = error EBADF")])
+    log = as_bytes([line for line in logged(trace) if " open " not in line])
+    verdict = judge.Verdict(judge.Both(WELL, WELL, system, log, trace_of(trace)), "legal 4 rest 0")
+    told = "not compared: 1 look at names, as by stat or access, which have no line"
+    require(told in judge.told(verdict, 60, 0).splitlines(), judge.told(verdict, 60, 0))
+    agreement = "verdict: agreement in what was compared, which is not all: no answer differs"
+    same((agreement, 0), ending(verdict))
+
+
 def is_left(noted: str, status: int) -> None:
     """A call that fdref answers, and in which the system may have been when it was killed, is a difference unless what
     is noted may be why."""
@@ -949,13 +1136,16 @@ def is_unlike(log: str) -> None:
 
 
 def is_torn() -> None:
-    """A log whose lines a system has mixed up is compared with nothing."""
+    """A log whose lines a system has mixed up is compared with nothing. A process may have been killed at its line."""
+    killed = "; a process that a signal ended may have been writing its line"
     for log in ("- p0 pipe = 3 4\n p0 = 3 4\n", "- p0 pipe\n", "p0 pipe = 3 4\n"):
-        both = judge.Both(WELL, WELL, log.encode(), b"", trace_of([]))
+        noted = as_bytes(["- 0 p0 signal 9"] if log == "- p0 pipe\n" else [])
+        both = judge.Both(WELL, WELL, log.encode(), b"", trace_of([]), system_past=noted)
         try:
             judge.Verdict(both, "legal 0 rest 0")
         except judge.CannotJudge as fault:
             require("of the log on the system is no call, but" in str(fault), str(fault))
+            same(bool(noted), str(fault).endswith(killed))
             continue
         raise Failure(f"{log!r} is compared")
 
@@ -992,8 +1182,13 @@ def cases() -> Iterator[Case]:
         ("! 1 p0 path chdir\t/", 3),
     ):
         yield f"a call that the system did not answer, after {noted}", partial(is_left, noted, status)
+    for ways in WAYS:
+        yield f"another way: {ways}", partial(goes_another_way, *ways)
+    for rooms in ROOMS:
+        yield f"room of a pipe: {rooms}", partial(is_of_room, *rooms)
     yield "a circle of forks", is_circular
     yield "a log that is torn", is_torn
+    yield "looks at names", tells_looks
     yield "a fault of judge.py", is_own_fault
     for causes in CAUSES:
         yield f"blamed: {causes.name}", partial(is_blamed, causes)

@@ -1,6 +1,7 @@
 """Programs of tests/c that are judged by tools/judge.py: what it says of each, and that nothing is left."""
 
 import os
+import re
 import select
 import shlex
 import shutil
@@ -26,6 +27,11 @@ SESSIONS = ("--sessions", "8")
 GOING = 5.0
 A_LINE = "a line of its own\n"
 TRIES = 3
+
+
+def without_waits(stderr: bytes) -> bytes:
+    """What stands on standard error, but for what is told of a wait, as it is where a machine is busy."""
+    return re.sub(rb"judge\.py: (?:waits for |.* the program still runs after ).*\n", b"", stderr)
 
 
 class Bench:
@@ -60,7 +66,7 @@ class Bench:
         """What judge.py says. It leaves no file, and no process that has this folder in its words."""
         ran = run([*self.command(*variables), *words], seconds=SECONDS)
         self.is_clean()
-        return ran
+        return ran._replace(stderr=without_waits(ran.stderr))
 
     def command(self, *variables: str) -> list[str]:
         """The command that runs judge.py."""
@@ -123,6 +129,8 @@ GO_ON = b"".join(
 )
 THREAD = b"judge.py: a thread waits in read, and no other one can make a call meanwhile\n"
 SIGNAL = b"judge.py: a signal comes while read waits, and ends no call of fdref\n"
+EINTR = "a signal ends a call (EINTR): signal 14 (SIGALRM) has a handler"
+UNENDED = "no signal explains EINTR: none had a handler then that ends calls"
 NOT_JUDGED = "verdict: not judged: "
 ENDS_OTHERWISE = f"{NOT_JUDGED}the two runs end otherwise, or write something else"
 NUMBERS = "the number of a process, an address, the time or a random number"
@@ -152,7 +160,7 @@ PROGRAMS = [
     Judged(
         "appends",
         (),
-        0,
+        3,
         (
             WELL,
             "5 calls of 1 process: 1 answer differs",
@@ -164,6 +172,7 @@ PROGRAMS = [
             APPENDS,
             "       0 without a reason",
             "audit: legal",
+            f"{NOT_JUDGED}1 answer differs with a reason: pwrite under O_APPEND appends",
         ),
     ),
     Judged(
@@ -408,8 +417,8 @@ PROGRAMS = [
             "fdref:  stood still, and was killed: p0 read 4 1, which a signal ends in the system alone",
             "system: p0 read 4 1 = error EINTR",
             "fdref:  7 p0 read 4 1 = parked 0",
-            "reason: a signal ends a call (EINTR), and signals are outside fdref (own; XSH 2.4.4)",
-            f"{ENDS_OTHERWISE}, perhaps by the reason above: a signal ends a call",
+            f"reason: {EINTR} (own; XSH 2.4.4)",
+            f"{ENDS_OTHERWISE}, perhaps by the reason above: {EINTR}",
         ),
         LATE,
         SIGNAL,
@@ -470,10 +479,17 @@ PROGRAMS = [
     Judged("stays", ("waits",), 0, (WELL,), ("--pipe-capacity", "65536")),
     Judged("stays", ("sleeps",), 0, (WELL, "4 calls of 2 processes: no answer differs"), ("--pipe-capacity", "1999")),
     Judged("stays", ("forks",), 0, (WELL,), ("--pipe-capacity", "65536")),
+    *[
+        Judged("stays", (word,), 0, (WELL, f"{count} calls of 1 process"), ("--pipe-capacity", "65536"))
+        for word, count in (("takes", 3), ("gives", 4))
+    ],
     # pipes of 2,000 bytes have room, and those of 1,999 have not
     Judged("stays", ("fills",), 0, (WELL,), ("--pipe-capacity", "2000")),
     Judged("stays", ("fills",), 3, ("system: ended with status 0", "fdref:  stood still"), ("--pipe-capacity", "1999")),
-    Judged("stays", ("leaves",), 3, (NEITHER, GOES_ON, "verdict: not judged: neither of"), SOON, GO_ON),
+    *[
+        Judged("stays", (word,), 3, (NEITHER, GOES_ON, "verdict: not judged: neither of"), SOON, GO_ON)
+        for word in ("leaves", "keeps")
+    ],
 ]
 
 
@@ -503,7 +519,13 @@ def cases(bench: Bench) -> Iterator[Case]:
         yield " ".join(["judge_" + judged.name, *judged.words]), partial(is_said, bench, judged)
     yield "a thread that waits, at once", partial(tells_at_once, bench)
     yield "a child that a signal ended while it waits", partial(kills_late, bench)
-    yield "writes that are torn", partial(finds_torn_writes, bench)
+    for way in ("LD_PRELOAD", "--preload"):
+        yield f"writes that are torn, by {way}", partial(finds_torn_writes, bench, way)
+    yield "calls that end early", partial(finds_early_ends, bench)
+    yield "a read of more than was asked for", partial(finds_long_reads, bench)
+    yield "the library itself in LD_PRELOAD", partial(leaves_out_itself, bench)
+    yield "a program that takes long", partial(tells_long_runs, bench)
+    yield "a server that leaves a process", partial(is_left_by_server, bench)
     yield "threads in a log", partial(names_threads, bench)
     yield "a process that ends beside a thread", partial(ends_beside_threads, bench)
     yield "what is kept, and standard input", partial(is_kept, bench)
@@ -573,16 +595,79 @@ def kills_late(bench: Bench) -> None:
             require(last.startswith(start), ran.said())
 
 
-def finds_torn_writes(bench: Bench) -> None:
-    """That the writes of a wrong C library to a pipe are torn is no matter of who comes first."""
+def finds_torn_writes(bench: Bench, way: str) -> None:
+    """That the writes of a wrong C library to a pipe are torn is no matter of who comes first. It is loaded into the
+    program alone."""
     library = bench.path("torn.so")
     compiles([bench.compiler, "-O2", *WARNINGS, "-shared", "-fPIC", str(C_TESTS / "torn_writes.c"), "-o", library])
     words = ["--shim", bench.shim(), bench.compiled("judge_races"), "pipe"]
-    ran = bench.judged(*words, variables=(f"LD_PRELOAD={library}",))
+    is_before = way == "LD_PRELOAD"
+    words = words if is_before else [way, library, *words]
+    ran = bench.judged(*words, variables=(f"{way}={library}",) if is_before else ())
     lines = ran.stdout.decode("ascii").splitlines()
     none = "no order of these calls gives all answers of the system"
     require(ran.status == 1 and NONE in lines and none in lines, ran.said())
     same(f"verdict: a difference: {none}", lines[-1])
+
+
+def finds_early_ends(bench: Bench) -> None:
+    """That the calls of a wrong C library end before their time is a difference, since no signal may be why."""
+    library = bench.path("early.so")
+    compiles([bench.compiler, "-O2", *WARNINGS, "-shared", "-fPIC", str(C_TESTS / "early_ends.c"), "-o", library])
+    room = ("--pipe-capacity", "65536")
+    for name, word, lines in (
+        ("agrees", "", ("system: p0 read 5 100 = error EINTR", NONE, UNENDED)),
+        ("stays", "fills", ("system: p0 write 4 00*2000 = 1000", "fdref:  6 p0 write 4 00*2000 = 2000", NONE)),
+    ):
+        ran = bench.judged("--shim", bench.shim(), "--preload", library, *room, bench.compiled(f"judge_{name}"), word)
+        said = ran.stdout.decode("ascii").splitlines()
+        require(ran.status == 1 and set(lines) <= set(said), ran.said())
+        require(said[-1].startswith("verdict: a difference: "), ran.said())
+
+
+def finds_long_reads(bench: Bench) -> None:
+    """That a read of a wrong C library answers more bytes than it was asked for is a difference."""
+    library = bench.path("more.so")
+    compiles([bench.compiler, "-O2", *WARNINGS, "-shared", "-fPIC", str(C_TESTS / "reads_more.c"), "-o", library])
+    ran = bench.judged("--shim", bench.shim(), "--preload", library, bench.compiled("judge_agrees"))
+    said = ran.stdout.decode("ascii").splitlines()
+    require(ran.status == 1 and {"system: p0 pread 9 1 1 = 2", NONE} <= set(said), ran.said())
+    require(said[-1].startswith("verdict: a difference: "), ran.said())
+
+
+def leaves_out_itself(bench: Bench) -> None:
+    """Where LD_PRELOAD names the library that judge.py loads by itself, that is told, and the program judged."""
+    variables = f"LD_PRELOAD={bench.shim()}", f"FDREF_LOG={bench.path('own-log')}"
+    ran = bench.judged("--shim", bench.shim(), bench.compiled("judge_agrees"), variables=variables)
+    told = f"judge.py: {bench.shim()} is the library that judge.py loads by itself: it is left out of LD_PRELOAD\n"
+    same((0, told), (ran.status, ran.stderr.decode("utf-8")))
+
+
+SOONER = "import sys; sys.path[:0] = [{!r}]; import judge, waits; waits.TELL_SECONDS = 0.5; sys.exit(judge.main({!r}))"
+
+
+def tells_long_runs(bench: Bench) -> None:
+    """That a program takes long is told, with how long it may take, and what its processes do."""
+    words = ["--program", bench.program, "--shim", bench.shim(), *SOON, bench.compiled("judge_stays"), "reads"]
+    ran = run([sys.executable, "-c", SOONER.format(str(TOOLS), words)], seconds=SECONDS)
+    lines = [line for line in ran.stderr.decode("utf-8").splitlines() if " still runs after " in line]
+    same((3, 2), (ran.status, len(lines)))
+    for where, line in zip(("with fdref", "on the system"), lines, strict=True):
+        start = f"judge.py: {where} the program still runs after 0.5 seconds, and is killed after 2 (--seconds): "
+        require(line.startswith(start) and line.count(" (judge_stays) waits") == 2, line)
+
+
+def is_left_by_server(bench: Bench) -> None:
+    """A command that runs fdref, and ends, and leaves a process that keeps its outputs open, is not waited for."""
+    left = Path(bench.path("left"))
+    leaves = shlex.join(["sh", "-c", f"setsid sh -c 'echo $$ >{left}; exec sleep {2 * SECONDS}' & exit 1"])
+    try:
+        cannot_run(bench, ("--program", leaves, "--shim", bench.shim(), "true"), "no server: status 1: ", ())
+    finally:
+        until = time.monotonic() + GOING
+        while not (left.exists() and left.read_text(encoding="ascii")) and time.monotonic() < until:
+            time.sleep(0.01)
+        os.kill(int(left.read_text(encoding="ascii")), signal.SIGKILL)
 
 
 def tells_unread(bench: Bench) -> None:
@@ -591,7 +676,7 @@ def tells_unread(bench: Bench) -> None:
     told = "judge.py: what is on standard input was not read: --stdin FILE gives it to the program\n"
     for given, wanted in ((A_LINE.encode(), told), (b"", "")):
         ran = run(words, given, seconds=SECONDS)
-        same((0, wanted), (ran.status, ran.stderr.decode("utf-8")))
+        same((0, wanted), (ran.status, without_waits(ran.stderr).decode("utf-8")))
 
 
 def tells_at_once(bench: Bench) -> None:
@@ -652,6 +737,8 @@ WRONG_WORDS: list[tuple[str, ...]] = [
     ("--stdin", "/no/such/file", "true"),
     ("--shim", "/no/such/file", "true"),
     ("--keep", "/no/such/folder", "true"),
+    ("--preload", "/no/such/file", "true"),
+    ("--preload", "/dev/null", "true"),
 ]
 
 
@@ -671,8 +758,8 @@ def cannot_run(bench: Bench, words: tuple[str, ...], why: str, variables: tuple[
 
 NO_CALLS = (
     "made none of the calls that fdref knows, or does not load the shim, or not in time, as a static program, one that "
-    "is built with -fsanitize=address or thread, or one that is given an LD_PRELOAD of its own, as by env: what stands "
-    "before judge.py is added to the shim"
+    "is built with -fsanitize=address or thread, or one that is given an LD_PRELOAD of its own, as by env: --preload "
+    "adds a library to the shim"
 )
 EXPR = shutil.which("expr") or "expr"
 NO_SUM = f"{NO_CALLS}; it ended with status 2, and wrote '{EXPR}: non-integer argument' on standard error"
@@ -721,6 +808,10 @@ def refused(bench: Bench) -> Iterator[Case]:
     """Wrong words, and programs that cannot be run."""
     for words in WRONG_WORDS:
         yield f"the words {words}", partial(is_wrong, bench, words)
+    fifo = bench.path("fifo")
+    os.mkfifo(fifo)
+    yield "standard input that is a pipe", partial(is_wrong, bench, ("--stdin", fifo, "true"))
+    yield "the shim twice", partial(is_wrong, bench, ("--preload", bench.shim(), "true"))
     for name, why, words, variables in not_run(bench):
         yield name, partial(cannot_run, bench, words, why, variables)
     yield "a signal", partial(ends_by_signal, bench)

@@ -224,10 +224,11 @@ def noted_asking(program: str, library: Library, word: str, settings: Sequence[s
 
 
 def hears_between(program: str, library: Library) -> None:
-    """Handlers of signals make calls while no call waits."""
-    same(Ran(0, b"", b""), noted(library, "signals", ()).given.ran)
-    asked = noted_asking(program, library, "signals", sessions=2)
-    same(Ran(0, b"", b""), asked.given.ran)
+    """Handlers of signals make calls while no call waits. A signal that ended a child is noted with its number."""
+    native, asked = noted(library, "signals", ()), noted_asking(program, library, "signals", sessions=2)
+    same((Ran(0, b"", b""),) * 2, (native.given.ran, asked.given.ran))
+    for lines in (native.past, asked.past):
+        same(["- p0 signal 9\tp1"], [line for line in lines if " signal " in line])
     require("- p0 interrupt lseek" not in asked.past, "a call that does not wait is interrupted")
 
 
@@ -246,6 +247,16 @@ def starts_timers(program: str, library: Library) -> None:
     asked = noted_asking(program, library, "timers")
     same(Ran(0, b"", b""), asked.given.ran)
     same([f"- p0 timer {name}" for name in ("alarm", "ualarm", "setitimer", "timer_settime")], asked.past)
+
+
+def sets_handlers(program: str, library: Library) -> None:
+    """Handlers that a program sets are noted with what they do to a call, each once. Natively a child has them, too,
+    until an exec."""
+    own = ["10\trestarts", "10\tends", "12\tends", "12\tnone"]
+    native, asked = noted(library, "handlers", ()), noted_asking(program, library, "handlers", sessions=2)
+    same((Ran(0, b"", b""),) * 2, (native.given.ran, asked.given.ran))
+    of_parent, of_child = ([f"- p0 handler {it}" for it in own], ["- p1 handler 10\tends", "- p1 handler 0\tnone"])
+    same((of_parent + of_child, of_parent), (native.past, asked.past))
 
 
 def cancels(program: str, library: Library) -> None:
@@ -272,12 +283,13 @@ def has_no_room(program: str, library: Library) -> None:
         require("p0 limit RLIMIT_FSIZE\n" in Path(past).read_text(encoding="ascii"), "the limit is not noted")
 
 
-def numbers_others(library: Library) -> None:
-    """Natively it is told once which descriptors no call known to fdref has made."""
+def numbers_others(program: str, library: Library) -> None:
+    """Natively it is told once which descriptors no call known to fdref has made, and with fdref what has made them."""
     found = noted(library, "other numbers", ())
     same(Ran(0, b"", b""), found.given.ran)
     same(["! p0 made 6", "! p0 made 7"], found.past)
     same(["- p0 dup 3 = 8", "- p0 dup 3 = 9", "- p0 dup 3 = 6"], found.given.log[-3:])
+    same(["- p0 makes socketpair"] * 2, noted_asking(program, library, "other numbers").past)
 
 
 def names_made(program: str, library: Library) -> None:
@@ -523,7 +535,7 @@ def programs(program: str, library: Library) -> Iterator[Case]:
     yield f"names in between, {library.name}", partial(between, "NAMES", ["names"], b"", NAMES_LOG)
     for word in APART:
         yield f"{word}, {library.name}", partial(apart, program, library, word)
-    yield f"other numbers, {library.name}", partial(numbers_others, library)
+    yield f"other numbers, {library.name}", partial(numbers_others, program, library)
     yield f"a signal within a call, {library.name}", partial(hears_within, library)
 
 
@@ -541,6 +553,7 @@ def endings(program: str, library: Library) -> Iterator[Case]:
     yield f"handlers of signals, {library.name}", partial(is_interrupted, program, library)
     yield f"handlers between calls, {library.name}", partial(hears_between, program, library)
     yield f"timers, {library.name}", partial(starts_timers, program, library)
+    yield f"handlers that are set, {library.name}", partial(sets_handlers, program, library)
     yield f"threads that are cancelled, {library.name}", partial(cancels, program, library)
     yield f"small files, {library.name}", partial(has_no_room, program, library)
     yield f"a name that is made, {library.name}", partial(names_made, program, library)

@@ -13,6 +13,10 @@ from support.running import CannotRun
 UNPROVED = TOP / "out" / "unproved" / "fdref"
 
 
+class ChosenLimits(Limits):
+    """Limits that were asked for: a pipe of the system holds as many bytes."""
+
+
 def add_program(parser: argparse.ArgumentParser) -> None:
     """The option `--program`."""
     text = "fdref, or a command that takes `replay` as its next word; "
@@ -38,7 +42,7 @@ def limits_of_capacity(word: str) -> Limits:
     if not PIPE_CAPACITY_LEAST <= capacity <= PIPE_CAPACITY_MOST:
         least, most = PIPE_CAPACITY_LEAST, PIPE_CAPACITY_MOST
         raise argparse.ArgumentTypeError(f"{word} is no number from {least} to {most}")
-    return Limits(capacity=capacity)
+    return ChosenLimits(capacity=capacity)
 
 
 def capacity_words(limits: Limits) -> list[str]:

@@ -86,11 +86,17 @@ class Call:
         # which process a join makes is known by its line
         self.outcome = str(noted.process) if is_made_by(noted) else noted.outcome
         self.is_known = self.outcome != UNKNOWN
+        # what an fstat tells, of which a word may not be known
+        self.words = self.outcome.split(" ") if self.outcome.startswith("regular ") and UNKNOWN in self.outcome else []
         self.is_optional = not self.has_ended and noted.outcome == UNKNOWN
         self.resume = plain_model.Act(noted.process, "resume")
 
     def can_give(self, outcome: str) -> bool:
         """Whether the call may end with this outcome."""
+        if self.words:
+            given = outcome.split(" ")
+            both = zip(self.words, given, strict=False)
+            return len(given) == len(self.words) and all(word in (UNKNOWN, other) for word, other in both)
         return not self.is_known or outcome == self.outcome
 
 

@@ -19,6 +19,7 @@ from support.counting import Failure, require, same
 from support.places import SCRATCH
 from support.plain_model import PIPE_CAPACITY, Limits
 from support.running import Ran, StillRunning
+from support.trees import rest_of
 
 SECONDS = 10
 A_WHILE = 0.3
@@ -127,7 +128,7 @@ def outcome_of(process: Process) -> Ran:
         stdout, stderr = process.communicate(timeout=SECONDS)
     except subprocess.TimeoutExpired:
         os.killpg(process.pid, signal.SIGKILL)
-        process.communicate()
+        rest_of(process)
         raise StillRunning(SECONDS) from None
     try:
         os.killpg(process.pid, signal.SIGKILL)

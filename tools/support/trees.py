@@ -15,6 +15,8 @@ PAUSE = 0.005
 LOOK = 0.2
 # How long it may take until what was killed is gone.
 GOING = 10.0
+# How long what has ended is read, of which another one that is not to be reached may keep the outputs open.
+READ_ON = 1.0
 # How long others of a program may go on after it has ended until that is told.
 TOLD_AFTER = 1.0
 
@@ -44,6 +46,15 @@ def parents() -> dict[int, int]:
                 # a name in brackets comes first, which may hold anything
                 found[int(number)] = int(file.read().rpartition(b")")[2].split()[1])
     return found
+
+
+def rest_of(process: subprocess.Popen[bytes]) -> tuple[bytes, bytes]:
+    """What a process that has ended, or was killed, has written. Another one may keep its outputs open without an
+    end."""
+    try:
+        return process.communicate(timeout=READ_ON)
+    except subprocess.TimeoutExpired as late:
+        return late.stdout or b"", late.stderr or b""
 
 
 def children_of(numbers: set[int], by_parent: dict[int, int]) -> set[int]:
@@ -120,7 +131,7 @@ class Tree:
                 status = self.status(goes_on, is_late)
                 if is_late or is_over():
                     self.kill()
-                    return Ended(None, *self.process.communicate(), status)
+                    return Ended(None, *rest_of(self.process), status)
         while (left := self.left()) and time.monotonic() < until and not is_over():
             self.status(goes_on)
             time.sleep(PAUSE)

@@ -1,0 +1,97 @@
+"""Which signals of a process had a handler while it made a call natively, as the shim noted it, and what such a signal
+may do to a call that waits: end it with EINTR, unless the handler restarts it, or cut a write short in either way.
+
+A signal without a handler does neither: it ends the process, stops it or has it go on, or is ignored. So an EINTR where
+no handler was set is an answer of the system that no signal explains.
+
+A note has the length of the log in the place of the place. A call began when the log was as long as its line tells, or
+at any time before; it had come back when its line was written.
+"""
+
+import itertools
+import signal
+from collections.abc import Sequence
+
+from support.plain_model import TRANSFER_MAX
+from support.runs import Line
+
+from past import HANDLER, Past
+
+# What a handler does to a call that waits.
+ENDS, RESTARTS, NONE = "ends", "restarts", "none"
+# What stands for all signals, as of a program that an exec has begun.
+ALL_SIGNALS = 0
+
+
+def signal_named(number: int) -> str:
+    """A signal with its name, where it has one."""
+    try:
+        return f"signal {number} ({signal.Signals(number).name})"
+    except ValueError:
+        return f"signal {number}"
+
+
+def length_of(line: Line) -> int:
+    """How many bytes a line has in a log."""
+    return len(f"{line.place} {line.act} = {line.outcome}\n")
+
+
+def begun_at(line: Line) -> int:
+    """How long the log was when a call began, as its line tells, or 0."""
+    told = line.place.partition("@")[2]
+    return int(told) if told.isdigit() else 0
+
+
+def rests_of(lines: Sequence[Line]) -> set[int]:
+    """The lines of writes that are the rest of a larger one, by their ids: the piece before it began when it did, and
+    is of the same thread and descriptor."""
+    last: dict[tuple[int, str], Line] = {}
+    found = set()
+    for line in lines:
+        who = line.number(), line.place.partition("@")[0]
+        before, last[who] = last.get(who), line
+        is_same = before is not None and before.place == line.place and words_of(before) == words_of(line)
+        if before and is_same and words_of(line)[0] == "write" and before.outcome == str(TRANSFER_MAX):
+            found.add(id(line))
+    return found
+
+
+def words_of(line: Line) -> list[str]:
+    """The word of a call, and the first thing that it has."""
+    return line.act.split(" ")[1:3]
+
+
+class Handlers:
+    """The handlers of all processes of a native run, where each line stands in its log, and which is the rest of a
+    write."""
+
+    def __init__(self, noted: Sequence[Past], lines: Sequence[Line]) -> None:
+        self.noted: dict[int, list[Past]] = {}
+        for one in noted:
+            if one.kind == HANDLER:
+                self.noted.setdefault(one.number, []).append(one)
+        ends = itertools.accumulate(map(length_of, lines), initial=0)
+        self.places = {id(line): place for place, line in zip(ends, lines, strict=False)}
+        self.rests = rests_of(lines)
+
+    def while_in(self, line: Line) -> dict[int, set[str]]:
+        """How each signal may have been handled while a call was made."""
+        begin, end = begun_at(line), self.places.get(id(line), 0)
+        found: dict[int, set[str]] = {}
+        for one in self.noted.get(line.number(), []):
+            number, how = int(one.call), {one.name}
+            if one.place > end:
+                continue
+            if number == ALL_SIGNALS:
+                found.clear()
+            else:
+                found[number] = how if one.place < begin else found.get(number, set()) | how
+        return found
+
+    def ending(self, line: Line) -> list[int]:
+        """The signals that may have ended a call."""
+        return sorted(number for number, how in self.while_in(line).items() if ENDS in how)
+
+    def cutting(self, line: Line) -> list[int]:
+        """The signals that may have cut a write short."""
+        return sorted(number for number, how in self.while_in(line).items() if how - {NONE})
