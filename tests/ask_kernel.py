@@ -7,7 +7,8 @@ The driver is compiled with every warning as an error. Then tools/compare.py run
 those of tests/rows that neither a number of records nor a bad line decides: no difference may be
 without a reason. Deadlocks have to end, a process that is ended from outside has to be told, and
 after a signal no process and no folder may be left. What scripts print that stand in for wrong systems
-and drivers has to be told (tests/parts/asked_drivers.py). Last, each rule of
+and drivers has to be told (tests/parts/asked_drivers.py), and so has each single answer that is wrong; one
+that is right has its reason (tests/parts/planted_answers.py). Last, each rule of
 tests/stand_ins/wrong_oracle.py has to be found out by random scripts, and so have two systems of
 tests/stand_ins/wrong_system.c.
 
@@ -29,7 +30,8 @@ from functools import partial
 from pathlib import Path
 from typing import Any
 
-from parts import asked_drivers
+from parts import asked_drivers, planted_answers
+from parts.planted_answers import FILED, FULL, ORDER, Row
 from stand_ins import wrong_oracle
 from support.counting import Case, Count, Failure, require
 from support.drivers import IS_LINUX, NOT_AN_ACT, Driver
@@ -352,14 +354,14 @@ def settled_with(answer: str, other: str) -> list[str]:
     return ["sh", "-c", f"{settled} | sed 's/^\\([0-9]*\\) {answer}$/\\1 {other}/'"]
 
 
-@case("a pipe with its ends the other way round", "1 0", "which end of a pipe has the lower number")
-@case("a pipe with another end", "2 0", None)
-def pipe_is_told(bench: Bench, ends: str, reason: str | None) -> None:
-    """The numbers of a pipe's ends may be either way round, and no others."""
+@case("a pipe whose ends are told the other way round", "1 0", ["which end of a pipe has the lower number", None])
+@case("a pipe with another end", "2 0", [None])
+def pipe_is_told(bench: Bench, ends: str, wanted: list[str | None]) -> None:
+    """The numbers of a pipe's ends may be either way round, and no others. Whether they are is seen in what follows."""
     asked = Asked([bench.program], settled_with("p0 pipe = 0 1", f"p0 pipe = {ends}"))
     found = compare.checked(asked, lines_of(b"join\np0 pipe\n")).differences
     reasons = [it.reason and it.reason.name for it in found]
-    require(reasons == [reason], f"{reasons}")
+    require(reasons == wanted, f"{reasons}")
 
 
 NONBLOCK = b"p0 setfl 1 -,nonblock\n"
@@ -419,6 +421,23 @@ def room_is_told(bench: Bench, writes: bytes, wanted: list[str]) -> None:
             if it.words("write", "resume")
         ]
         require(found == wanted, f"{found}")
+
+
+TWO = b"p0 pipe\np0 fork\np1 attach\n"
+FILLED = b"p0 write 1 61*65536\np0 write 1 62*20000\n"
+WAITS = TWO + FILLED
+
+
+@case("a read of less, while a write waits for a page", WAITS + b"p1 read 0 100\np1 read 0 65536\n", "read")
+@case("and after that", WAITS + b"p1 read 0 100\np0 exit\np1 read 0 65536\n", "read")
+@case("a write that moves less", TWO + b"p0 close 0\n" + FILLED + b"p1 read 0 5000\np1 close 0\n", "resume")
+@case("a write that waits for a page", WAITS.replace(b"20000", b"600") + b"p1 read 0 1000\n", "resume")
+def page_is_told(bench: Bench, calls: bytes, word: str) -> None:
+    """What a pipe of Linux that has pages does otherwise once a write waits is told with that reason."""
+    if IS_LINUX:
+        found = compare.checked(bench.asked(limits=ROOMY), lines_of(b"join\n" + calls)).differences
+        told = {(it.act.word, it.reason and it.reason.name) for it in found if not it.words("fstat")}
+        require(told == {(word, "room of a pipe that is counted in pages")}, f"{told}")
 
 
 def says(bench: Bench, text: bytes, *words: str) -> tuple[int, list[str]]:
@@ -582,6 +601,15 @@ def is_wrong_system(bench: Bench, library: str, way: str) -> None:
     raise Failure(f"{RULE_SCRIPTS} scripts do not find it")
 
 
+# Single answers of one more call, as in tests/parts/planted_answers.py.
+DUPLICATES = [
+    Row(f"{FULL}; p0 dup 40", "p0 dup 40", "error EMFILE", ORDER),
+    Row(f"{FULL}; p0 dup 0", "p0 dup 0", "error EBADF"),
+    Row(f"{FILED}; p0 dup 7", "p0 dup 7", "error EMFILE"),
+    Row(f"{FILED}; p0 dup 0", "p0 dup 0", "2"),
+]
+
+
 # ---- the whole
 
 
@@ -589,6 +617,7 @@ def all_cases(bench: Bench) -> Iterator[Case]:
     """All cases, in their order."""
     yield from ((name, partial(check, bench)) for name, check in CASES)
     yield from asked_drivers.cases(bench.program, os.path.dirname(bench.driver))
+    yield from planted_answers.cases(bench.program, DUPLICATES)
     yield from row_cases(bench)
     yield from random_scripts(bench)
     yield from rules(bench)

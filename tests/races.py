@@ -382,6 +382,10 @@ MEANWHILE = [
     ("100 900 p0 pwrite 0 0 61*8192 = 8192", "200 300 p1 fstat 0 = regular 4097 1", None),
     ("100 150 p0 pwrite 0 0 61*8192 = 8192", "200 300 p1 fstat 0 = regular 4096 1", None),
     ("100 900 p0 pwrite 0 0 61*100 = 100", "200 300 p1 fstat 0 = regular 4096 1", None),
+    # of more bytes than are asked for, of other links, and of a length that nobody writes
+    ("100 900 p0 pwrite 0 0 x6162 = 2", "200 300 p1 pread 0 0 2 = x613030", None),
+    ("100 900 p0 pwrite 0 0 61*8192 = 8192", "200 300 p1 fstat 0 = regular 4096 2", None),
+    ("100 900 p0 pwrite 0 0 61*8192 = 8192", "200 300 p1 fstat 0 = regular 16384 1", None),
 ]
 OWN = [
     "0 1 p0 join = 0",
@@ -458,6 +462,8 @@ def reason_cases() -> Iterator[Case]:
         yield f"{one} and {other}", partial(has_reason, NAMED, one, other, reason)
     for one, reason in REPLACED:
         yield f"{one} and looks", partial(has_reason, LOOKED, one, LOOKS, reason)
+    other_size = LOOKS.replace("fstat 0 = regular 0 0", "fstat 0 = regular 1 0")
+    yield "another size while links are told", partial(has_reason, LOOKED, REPLACED[0][0], other_size, None)
     late = "100 900 p0 rename b a = ok", f"{LOOKS}\n600 650 p2 link a c = error ENOENT"
     yield "a late link and early looks", partial(has_reason, [*LOOKED, "10 11 p2 join = 2"], *late, "late links, and")
     shared = "100 900 p0 write 0 x6162 = 2", "200 300 p1 read 0 2 = x6130"

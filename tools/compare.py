@@ -49,7 +49,8 @@ from support.summaries import Counts, add_summary
 from support.texts import several
 
 from compare_lines import Asked, first_unfit, in_other_order, is_at_once, moved
-from compare_reasons import OWN, REASONS, Difference, Reason, follows_append, is_room, told_reason
+from compare_reasons import OWN, REASONS, Difference, Reason, appended_to, follows_append, process_of
+from compare_reasons import reason_of, told_reason
 from compare_runs import act_of, check_alike, ends_of_closing, is_told_back, places_of_script
 from compare_walks import CLASSES, class_of, random_lines, with_looks
 
@@ -87,12 +88,22 @@ class Beside:
         self.lines = lines
         self.ends = ends_of_closing(lines)
         self.place = 0
+        # how long a file was before each pwrite under append
+        self.sizes: dict[int, int] = {}
+        # the writes in which processes waited that have ended
+        self.ended: list[plain_model.WaitingWrite] = []
 
     def world_before(self, place: int) -> plain_model.World:
         """The world before a line, which is none of those that were asked for already."""
         for at in range(self.place, place):
             if at not in self.ends and self.lines[at].act:
-                self.run.take(plain_model.read_act(act_of(self.lines[at]).encode()))
+                act = plain_model.read_act(act_of(self.lines[at]).encode())
+                size = appended_to(self.run.world, act)
+                self.sizes |= {at: size} if size is not None else {}
+                process = process_of(self.run.world, act)
+                call = process.waits if process and act.word == "exit" else None
+                self.ended += [call] if isinstance(call, plain_model.WaitingWrite) else []
+                self.run.take(act)
         self.place = place
         return self.run.world
 
@@ -104,7 +115,7 @@ class Beside:
 
 def compared(asked: Asked, lines: list[bytes]) -> tuple[list[Line], list[Difference]]:
     """Runs a script once: the lines of the system, and the differences up to the first that sets the two apart."""
-    system = asked.system(lines)
+    system, turned = asked.exchanged(lines)
     fdref = asked.fdref(system)
     found: list[Difference] = []
     known: set[int] = set()
@@ -119,6 +130,9 @@ def compared(asked: Asked, lines: list[bytes]) -> tuple[list[Line], list[Differe
             continue
         check_alike(system, fdref, place)
         difference = Difference(place, system, system[place], fdref[place], beside.world_before(place))
+        difference.has_same_room, difference.counts_bytes = asked.has_same_room, asked.counts_bytes
+        difference.is_exchanged = place in turned
+        difference.size_before, difference.ended = beside.sizes.get(place - 1), beside.ended
         difference.reason = reason_in(asked, difference)
         # no reason excuses an fdref that the model contradicts
         if system[place].act and place not in beside.ends and difference.fdref != beside.outcome_at(place):
@@ -189,11 +203,9 @@ AT_ONCE = Reason("PIPE_BUF is more than 512 bytes", OWN, "pages of limits.h and 
 
 
 def reason_in(asked: Asked, difference: Difference) -> Reason | None:
-    """The first reason that fits a difference. Room of a pipe is none where pipes were seen to have the same."""
+    """The first reason that fits a difference."""
     is_measured = AT_ONCE.fits(difference) and is_at_once(asked, difference.lines, difference.place)
-    is_same = asked.has_same_room and asked.counts_bytes
-    known = [it for it in REASONS if not (is_same and it.fits is is_room)]
-    return AT_ONCE if is_measured else next((it for it in known if it.fits(difference)), None)
+    return AT_ONCE if is_measured else reason_of(difference)
 
 
 # ---- telling
@@ -219,7 +231,7 @@ def told(difference: Difference) -> str:
 
 def told_waiting(difference: Difference) -> list[str]:
     """Of a call that waits on in the system alone, what the standard says of its waiting."""
-    if not difference.words("resume") or difference.system != "still":
+    if not difference.words("resume") or difference.system not in ("still", "?"):
         return []
     who = f"p{difference.act.actor}"
     before = [line for line in difference.lines[: difference.place] if line.act.startswith(f"{who} ")]

@@ -12,7 +12,8 @@ from support.plain_model import DEFAULTS, PIPE_BUF, TRANSFER_MAX, Limits
 from support.running import CannotRun, run
 from support.runs import ALL_RECORDS, Line, line_of
 
-from compare_runs import act_of, bytes_of_write, ends_of_closing, is_told_back, run_of
+from compare_runs import act_of, bytes_of_write, ends_of_closing, is_told_back, places_of_script, run_of
+from compare_turns import moves_of, with_moves, without_moves
 
 SECONDS = 120
 ORDERS_MOST = 150
@@ -51,7 +52,9 @@ def fits(asked: "Asked", lines: list[Line], place: int, fdref: Line) -> bool:
     if system.act != fdref.act:
         return False
     if system.outcome == "?":
-        return not fdref.outcome.startswith("part ") or not is_at_once(asked, lines, place)
+        # it waits on
+        is_part = fdref.outcome.startswith("part ") and not is_at_once(asked, lines, place)
+        return is_part or fdref.outcome == "still"
     if not system.act:
         totals = zip(system.outcome.split(" "), fdref.outcome.split(" "), strict=True)
         return all(word in ("?", other) for word, other in totals)
@@ -96,10 +99,8 @@ class Asked:
         return [line.outcome for line in self.system(lines)[4:-1]]
 
     def room(self, *sizes: int) -> int:
-        """How many bytes go into an empty pipe of the system by writes of these sizes and one of 65,536, or 65,536
-        where they are more."""
-        outcomes = self.fifo([b"p0 write 1 61*%d" % size for size in (*sizes, TRANSFER_MAX)])
-        return min(sum(map(moved, outcomes)), TRANSFER_MAX)
+        """How many bytes go into an empty pipe of the system by writes of these sizes and two of 65,536."""
+        return sum(map(moved, self.fifo([b"p0 write 1 61*%d" % size for size in (*sizes, TRANSFER_MAX, TRANSFER_MAX)])))
 
     def most_at_once(self) -> int:
         """PIPE_BUF of the system, whose pipes have the room of fdref's: the largest write that is refused where there
@@ -124,6 +125,21 @@ class Asked:
             # a resume that is told as `?` may be none, so the number of records is not known
             lines[-1] = lines[-1]._replace(outcome=lines[-1].outcome.replace(lines[-1].outcome.split(" ")[1], "?", 1))
         return lines
+
+    def exchanged(self, script: list[bytes]) -> tuple[list[Line], set[int]]:
+        """The same, where the ends of each pipe change places whose writing end has the lower number; and the places of
+        these pipes."""
+        added: dict[int, list[bytes]] = {}
+        lines = self.system(script)
+        # the first of them alone, since what comes after it may be otherwise then
+        while new := next(((number, acts) for number, acts in moves_of(lines) if number not in added), None):
+            further = {**added, new[0]: new[1]}
+            moved = without_moves(script, further, self.system(with_moves(script, further)))
+            if moved is None:
+                break
+            added, lines = further, moved
+        of_script = places_of_script(lines)
+        return lines, {of_script[number] for number in added}
 
     def fault(self, path: str) -> str:
         """The fault of a script, as fdref tells it: its line, its column and what could stand there."""
@@ -153,11 +169,12 @@ def first_unfit(asked: Asked, system: list[Line], fdref: list[Line], known: set[
     return None
 
 
-def groups_before(lines: list[Line], place: int) -> list[tuple[int, int]]:
-    """Where several calls came back one after another, up to a place: the last of them first."""
+def groups_before(lines: list[Line], place: int, has_unseen: bool) -> list[tuple[int, int]]:
+    """Where several calls came back one after another, up to a place: the last of them first. Writes that may have
+    moved on unseen are among them, or not."""
     groups: list[list[int]] = []
     for at, line in enumerate(lines):
-        if is_told_back(line) and line.outcome != "?":
+        if is_told_back(line) and (has_unseen or line.outcome != "?"):
             if groups and groups[-1][1] == at:
                 groups[-1][1] = at + 1
             else:
@@ -171,8 +188,14 @@ def in_other_order(asked: Asked, lines: list[Line], place: int, known: set[int])
     Which of them the kernel served first is not seen, so each order may be the one that happened. Differences that are
     known stay where they are.
     """
+    tries = (other_order(asked, lines, place, known, has_unseen) for has_unseen in (False, True))
+    return next((found for found in tries if found), None)
+
+
+def other_order(asked: Asked, lines: list[Line], place: int, known: set[int], has_unseen: bool) -> list[Line] | None:
+    """The same, where writes that may have moved on unseen change their places too, or not."""
     tries = 0
-    for first, end in groups_before(lines, place):
+    for first, end in groups_before(lines, place, has_unseen):
         for order in itertools.permutations(lines[first:end]):
             tries += 1
             if tries > ORDERS_MOST:

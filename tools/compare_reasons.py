@@ -1,20 +1,24 @@
 """Why a system and fdref may differ: each reason with who decides it, the page of the standard, and the differences
 that it fits."""
 
-from collections.abc import Callable
-from typing import NamedTuple
+import copy
+import itertools
+import re
+from collections.abc import Callable, Iterator
+from typing import Any, NamedTuple
 
 from support import plain_model, walks
-from support.plain_model import OFFSET_MAX, OPEN_MAX, PIPE_BUF, TRANSFER_MAX
+from support.plain_model import LINK_MAX, NAME_MAX, OFFSET_MAX, OPEN_MAX, PIPE_BUF, TRANSFER_MAX
 from support.runs import Line
 
 from compare_lines import act_of, is_moved, moved
 
 # Systems give a pipe memory in pages of so many bytes.
 PAGE = 4_096
-# What each system has at least: descriptors (_POSIX_OPEN_MAX), bytes of a name (_POSIX_NAME_MAX), and bytes of a file,
-# which has 32 bits for its size (FILESIZEBITS).
-OPEN_LEAST, NAME_LEAST, SIZE_LEAST = 20, 14, 2**31 - 1
+# How many bytes of a read the driver sees at most.
+READ_MOST = 1_048_576
+# A name of the portable filename character set.
+PORTABLE = re.compile(rb"[A-Za-z0-9._-]*")
 
 
 # ---- a difference
@@ -35,11 +39,29 @@ class Difference:
         self.reason: Reason | None = None
         # what fdref gives in the lines before it that differ, too
         self.earlier: dict[int, str] = {}
+        # what is known of the pipes of the system: that they hold as many bytes as fdref's, and that they have no pages
+        self.has_same_room = self.counts_bytes = False
+        # whether it is a pipe whose ends have changed places since
+        self.is_exchanged = False
+        # how long the file was before the pwrite under append that it follows, if that is known
+        self.size_before: int | None = None
+        # the writes in which processes waited that have ended
+        self.ended: list[plain_model.WaitingWrite] = []
+
+    def instead(self, **values: Any) -> "Difference":
+        """The same, but for these values."""
+        other = copy.copy(self)
+        vars(other).update(values)
+        return other
 
     def description(self, act: plain_model.Act) -> plain_model.Description | None:
         """The open file description that a call is made on, or None."""
         has_fd = plain_model.FIELDS.get(act.word, ())[:1] == (plain_model.read_fd,)
         return self.process.table.get(act.fields[0]) if has_fd and self.process else None
+
+    def has_descriptor(self) -> bool:
+        """Whether it is a call on a descriptor."""
+        return plain_model.FIELDS.get(self.act.word, ())[:1] == (plain_model.read_fd,)
 
     def words(self, *words: str) -> bool:
         """Whether it is one of these calls."""
@@ -49,19 +71,13 @@ class Difference:
         """Whether fdref gives one of these."""
         return self.fdref in outcomes
 
-    def succeeds(self) -> bool:
-        """Whether the system does what fdref refuses."""
-        return not self.system.startswith("error ") and self.fdref.startswith("error ")
-
     def are_errors(self) -> bool:
         """Whether both end in an error."""
         return self.system.startswith("error ") and self.fdref.startswith("error ")
 
     def names(self) -> list[bytes]:
         """The names that a call has."""
-        kinds = plain_model.FIELDS.get(self.act.word, ())
-        fields = zip(kinds, self.act.fields, strict=True)
-        return [value for kind, value in fields if kind is plain_model.read_name]
+        return names_of(self.act)
 
     def flags(self) -> list[str]:
         """The flags of an open."""
@@ -84,10 +100,16 @@ class Difference:
             return start
         return len(at.regular.data) if at.append and self.words("write") else at.offset
 
+    def waiting_write(self) -> plain_model.WaitingWrite | None:
+        """The write that is taken up again, if it is one."""
+        call = self.process.waits if self.words("resume") and self.process else None
+        return call if isinstance(call, plain_model.WaitingWrite) else None
+
     def is_settled(self) -> bool:
         """Whether system and fdref are in the same state after it, so that the run can go on."""
         is_look = self.words("fstat", "getfl") and not follows_append(self)
-        return self.are_errors() or is_look or is_unchecked(self) or self.system == "not asked"
+        is_same = self.are_errors() or is_unchecked(self) or self.system == "not asked"
+        return is_same or is_look or (self.is_exchanged and is_turned(self))
 
 
 def process_of(world: plain_model.World, act: plain_model.Act) -> plain_model.Process | None:
@@ -95,26 +117,48 @@ def process_of(world: plain_model.World, act: plain_model.Act) -> plain_model.Pr
     return world.processes.get(act.actor) if isinstance(act.actor, int) else None
 
 
+def names_of(act: plain_model.Act) -> list[bytes]:
+    """The names that an act has."""
+    fields = zip(plain_model.FIELDS.get(act.word, ()), act.fields, strict=True)
+    return [value for kind, value in fields if kind is plain_model.read_name]
+
+
 # ---- what it may be
 
 
 def due(it: Difference) -> set[str]:
-    """The errors that are due of a call, in whatever order they are asked."""
+    """The errors that are due of a call by its page, in whatever order they are asked. What the profile alone refuses
+    is none: too many bytes, and names and flags that it does not take."""
     word, at, fields = it.act.word, it.at, it.act.fields
-    wants = {"pread": "r", "read": "r", "pwrite": "w", "write": "w", "ftruncate": "w"}.get(word, "")
     if word == "open":
         return due_of_open(it)
-    errors = {"EBADF": not at or wants not in at.mode}
+    if it.names():
+        return due_of_names(it)
+    wants = {"pread": "r", "read": "r", "pwrite": "w", "write": "w"}.get(word, "")
+    errors = {"EBADF": bool(it.has_descriptor()) and (not at or wants not in at.mode)}
     if word in ("pread", "pwrite"):
-        start, count = fields[1], it.count()
         errors["ESPIPE"] = bool(at and at.pipe)
-        errors["EINVAL"] = start < 0 or count > TRANSFER_MAX or (count > 0 and start + count > OFFSET_MAX)
-        errors["EFBIG"] = word == "pwrite" and count > 0 and start >= it.world.limits.size
+        errors["EINVAL"] = fields[1] < 0
     elif word == "ftruncate":
-        length = fields[1]
-        errors["EINVAL"] = length < 0 or length > it.world.limits.size
-        errors["EINVAL"] |= bool(at and (at.pipe or "w" not in at.mode))
-        errors["EFBIG"] = length > it.world.limits.size
+        is_for_reading = bool(at and "w" not in at.mode)
+        errors["EBADF"] |= is_for_reading
+        errors["EFBIG"] = fields[1] > it.world.limits.size
+        errors["EINVAL"] = fields[1] < 0 or is_for_reading or errors["EFBIG"]
+    elif gives_descriptors(it):
+        errors["EMFILE"] = free_descriptors(it)[-1 if word == "pipe" else 0] >= OPEN_MAX
+    return {error for error, is_due in errors.items() if is_due}
+
+
+def due_of_names(it: Difference) -> set[str]:
+    """The errors that are due of a call that only names files."""
+    old, *_, new = [*it.names(), *it.names()]
+    file = it.world.names.get(old)
+    errors = {
+        "ENOENT": not all(it.names()) or (not file and not it.words("mkfifo")),
+        "ENAMETOOLONG": any(len(name) > NAME_MAX for name in it.names()),
+        "EEXIST": it.words("link", "mkfifo") and new in it.world.names,
+        "EMLINK": it.words("link") and file is not None and it.world.links(file) >= LINK_MAX,
+    }
     return {error for error, is_due in errors.items() if is_due}
 
 
@@ -122,17 +166,13 @@ def due_of_open(it: Difference) -> set[str]:
     """The errors that are due of an open."""
     name, flags = it.act.fields[0], it.flags()
     file = it.world.names.get(name)
-    is_own = has_own_name_fault(it) or has_own_flags(it)
+    is_fifo = isinstance(file, plain_model.Fifo)
     errors = {
-        "EMFILE": it.process is not None and len(it.process.table) == OPEN_MAX,
+        "EMFILE": free_descriptors(it)[0] >= OPEN_MAX,
         "ENOENT": (not file and "creat" not in flags) or not name,
         "EEXIST": bool(file) and "creat" in flags and "excl" in flags,
-        "EINVAL": is_own,
-        "ENAMETOOLONG": is_own,
+        "ENXIO": is_fifo and "nonblock" in flags and flags[0] == "w" and not it.world.has_end(file.pipe, "r"),
     }
-    if isinstance(file, plain_model.Fifo):
-        errors["EINVAL"] = is_own or flags[0] == "rw"
-        errors["ENXIO"] = flags[0] == "w" and "nonblock" in flags and not it.world.has_end(file.pipe, "r")
     return {error for error, is_due in errors.items() if is_due}
 
 
@@ -141,9 +181,22 @@ def is_order(it: Difference) -> bool:
     return it.are_errors() and {it.system[6:], it.fdref[6:]} <= due(it)
 
 
+def is_right(it: Difference, fdref: str) -> bool:
+    """Whether the system gives what fdref would have to give, by another one of its rules, or has a reason not to."""
+    waits = it.system == "parked ?" and fdref.startswith("parked ")
+    return waits or it.system == fdref or reason_of(it.instead(fdref=fdref)) is not None
+
+
 def is_append(act: plain_model.Act, at: plain_model.Description | None) -> bool:
     """Whether an act is a pwrite under append."""
     return act.word == "pwrite" and at is not None and at.append and not at.pipe and "w" in at.mode
+
+
+def appended_to(world: plain_model.World, act: plain_model.Act) -> int | None:
+    """How long the file is to which a pwrite under append writes, if an act is one."""
+    process = process_of(world, act) if act.word == "pwrite" else None
+    at = process.table.get(act.fields[0]) if process else None
+    return len(at.regular.data) if at and is_append(act, at) else None
 
 
 def follows_append(it: Difference) -> bool:
@@ -172,6 +225,8 @@ def is_size_appended(it: Difference) -> bool:
         return False
     _, start, data = plain_model.read_act(act_of(it.lines[it.place - 1]).encode()).fields
     size, end = int(fdref[1]), start + len(data)
+    if it.size_before is not None:
+        return int(system[1]) == max(it.size_before, min(it.size_before + len(data), it.world.limits.size))
     # where it made the file longer, the size before it is any up to the one after it
     least = size if size > end else 0
     return least + len(data) <= int(system[1]) <= size + len(data)
@@ -184,14 +239,18 @@ def is_lseek_overflow(it: Difference) -> bool:
 
 def is_lseek_past_files(it: Difference) -> bool:
     """An lseek past the greatest file of the file system."""
-    return it.words("lseek") and it.fdref.isdigit() and int(it.fdref) >= 2**40 and it.system == "error EINVAL"
+    if not it.words("lseek") or not it.fdref.isdigit() or it.system != "error EINVAL":
+        return False
+    # one that went as far is no such limit
+    others = [line.outcome for line in it.lines if " lseek " in line.act and line.outcome.isdigit()]
+    return int(it.fdref) >= max(2**40, *(int(outcome) + 1 for outcome in others), 0)
 
 
 def is_offset_and_count(it: Difference) -> bool:
     """A transfer that passes the greatest offset."""
     if not it.words("read", "pread", "write", "pwrite") or not it.at or it.at.pipe or it.system != "error EINVAL":
         return False
-    return it.count() > 0 and it.start(it.at) + it.count() > OFFSET_MAX
+    return it.gives("x", "error EFBIG") and it.count() > 0 and it.start(it.at) + it.count() > OFFSET_MAX
 
 
 def is_length_too_large(it: Difference) -> bool:
@@ -219,7 +278,7 @@ def may_give(it: Difference, outcome: str) -> bool:
 
 def is_room(it: Difference) -> bool:
     """A write to a pipe that has more room on the system than in the profile, or less."""
-    if not it.words("write") or not it.at or not it.at.pipe:
+    if not it.words("write") or not it.at or not it.at.pipe or it.has_same_room:
         return False
     whole, held = it.count(), len(it.at.pipe.data)
     is_less = it.system != str(whole) and held + whole > PIPE_BUF
@@ -229,28 +288,127 @@ def is_room(it: Difference) -> bool:
 
 def is_paged_room(it: Difference) -> bool:
     """A write to a pipe for which the system has as many bytes as are asked for, but in pages of which some are not
-    full.
+    full; or a read of one to which a write of more than PIPE_BUF bytes has gone on less.
 
     A write goes on in a page only where it fits there. So two pages beside each other hold more than one page together,
     but for the first one, of which something was read; and a pipe that is about half full may have no page left.
     """
-    if not it.words("write") or not it.at or not it.at.pipe or it.at.pipe.capacity % PAGE:
+    call = it.waiting_write()
+    pipe = call.pipe if call else it.at.pipe if it.at else None
+    if it.counts_bytes or not pipe or pipe.capacity % PAGE:
         return False
-    if not may_give(it, it.system) or not is_moved(it.fdref):
+    if call:
+        return is_paged_resume(it, call)
+    if it.words("read"):
+        return is_paged_read(it, pipe)
+    if not it.words("write") or not may_give(it, it.system) or not is_moved(it.fdref):
         return False
-    held, fdref = len(it.at.pipe.data), moved(it.fdref)
+    held, fdref = len(pipe.data), moved(it.fdref)
     # how many bytes of a large write have gone in is not seen on the system while it waits
     is_less = fdref > 0 if it.system == "parked ?" else moved(it.system) < fdref
-    return is_less and held > 0 and held + it.count() > it.at.pipe.capacity // 2 - PAGE
+    return is_less and held > 0 and held + it.count() > pipe.capacity // 2 - PAGE
 
 
-def is_set_while_it_waits(it: Difference) -> bool:
-    """A write that waits ends on the system with what it moved, since nonblock was set on its description meanwhile."""
-    call = it.process.waits if it.words("resume") and it.process else None
-    if not isinstance(call, plain_model.WaitingWrite) or not it.system.isdigit() or not it.fdref.startswith("part "):
+def is_paged_resume(it: Difference, call: plain_model.WaitingWrite) -> bool:
+    """A write that waits on, for want of a page, or that ends without a reader and has moved less."""
+    if call.is_whole or not it.fdref.isdigit():
         return False
-    ends = (at for process in it.world.processes.values() for at in process.table.values() if at.pipe is call.pipe)
-    return any("w" in at.mode and at.nonblock for at in ends)
+    if it.world.has_end(call.pipe, "r"):
+        return it.system == "?" and len(call.pipe.data) > call.pipe.capacity // 2 - PAGE
+    return it.system == "error EPIPE" or (it.system.isdigit() and 0 < int(it.system) < int(it.fdref))
+
+
+def is_paged_read(it: Difference, pipe: plain_model.Pipe) -> bool:
+    """A read that gives less than in fdref, but for no more bytes than those that writes have moved which wait, or did
+    to the end of their process."""
+    calls = [*it.ended, *(process.waits for process in it.world.processes.values() if process.waits)]
+    late = sum(call.moved for call in calls if call.pipe is pipe)
+    given, wanted = (plain_model.read_data(text.encode()) for text in (it.system, it.fdref))
+    return bool(given and wanted and wanted.startswith(given) and len(wanted) - len(given) <= late)
+
+
+def is_split_room(it: Difference) -> bool:
+    """A write that waits on, since another one at its pipe got some of the room: it is left open who gets how much."""
+    call = it.waiting_write()
+    if not call or it.system != "?" or not it.fdref.isdigit() or not it.world.has_end(call.pipe, "r"):
+        return False
+    calls = [process.waits for process in it.world.processes.values()]
+    large = [one for one in calls if isinstance(one, plain_model.WaitingWrite) and not one.is_whole]
+    wanted = sum(len(one.data) - one.moved for one in large if one.pipe is call.pipe)
+    return wanted > call.pipe.room() and is_full_at_next_read(it, call.pipe)
+
+
+def is_full_at_next_read(it: Difference, pipe: plain_model.Pipe) -> bool:
+    """Whether the next read of a pipe on the system, if there is one, finds as many bytes as it holds."""
+    for line in it.lines[it.place + 1 :]:
+        who, word, *fields = f"{line.act}  ".split(" ")
+        process = it.world.processes.get(int(who[1:])) if word == "read" else None
+        if process and int(fields[0]) in process.table and process.table[int(fields[0])].pipe is pipe:
+            data = plain_model.read_data(line.outcome.encode())
+            return data is not None and len(data) >= min(int(fields[1]), pipe.capacity)
+    return True
+
+
+def is_broken(it: Difference) -> bool:
+    """A write that had moved a part when the last reader went: fdref answers the part, and the system EPIPE."""
+    if it.system != "error EPIPE" or not it.fdref.isdigit():
+        return False
+    call = it.waiting_write()
+    if call:
+        return not it.world.has_end(call.pipe, "r") and int(it.fdref) == call.moved > 0
+    is_waiting = it.words("write") and it.at is not None and it.at.pipe is not None and not it.at.nonblock
+    # one that waits writes all, but for want of a reader
+    return is_waiting and PIPE_BUF < it.count() and 0 < int(it.fdref) < it.count()
+
+
+def is_set_while_write_waits(it: Difference) -> bool:
+    """A write that waits ends on the system with what it moved, or with EAGAIN where that is nothing, since nonblock
+    was set on its description meanwhile."""
+    call = it.waiting_write()
+    if not call or not it.process or not is_set(it.process, call.pipe, "w") or not it.world.has_end(call.pipe, "r"):
+        return False
+    if it.system == "error EAGAIN":
+        return call.moved == 0 and it.gives("still")
+    most = int(it.fdref.removeprefix("part ")) if it.fdref.startswith("part ") else call.moved
+    is_waiting = it.gives("still") or it.fdref.startswith("part ")
+    return is_waiting and it.system.isdigit() and max(call.moved, 1) <= int(it.system) <= most
+
+
+def is_set_while_read_waits(it: Difference) -> bool:
+    """A read that waits is EAGAIN on the system, since nonblock was set on its description meanwhile, and another one
+    got what there was."""
+    call = it.process.waits if it.words("resume") and it.process else None
+    if not isinstance(call, plain_model.WaitingRead) or it.system != "error EAGAIN" or not it.gives("still"):
+        return False
+    return it.process is not None and is_set(it.process, call.pipe, "r")
+
+
+def is_set(process: plain_model.Process, pipe: plain_model.Pipe, end: str) -> bool:
+    """Whether nonblock is set on an end of a pipe that a process has."""
+    return any(at.pipe is pipe and end in at.mode and at.nonblock for at in process.table.values())
+
+
+def is_ftruncate_of_pipe(it: Difference) -> bool:
+    """An ftruncate of a pipe or FIFO, of which nothing is specified but that no length is negative."""
+    is_asked = it.words("ftruncate") and it.at is not None and it.at.pipe is not None and it.gives("error EINVAL")
+    return is_asked and it.act.fields[1] >= 0 and (it.system == "ok" or it.system.startswith("error "))
+
+
+def is_reader_waiting(it: Difference) -> bool:
+    """An open of a FIFO for writing with nonblock, of which each reader still waits in its own open: in fdref it is
+    open."""
+    is_asked = it.words("open") and it.system == "error ENXIO" and it.fdref.isdigit() and it.is_on_fifo()
+    if not is_asked or it.flags()[0] != "w" or "nonblock" not in it.flags():
+        return False
+    file = it.world.names[it.act.fields[0]]
+    assert isinstance(file, plain_model.Fifo)
+    ends = [
+        (process.waits, fd)
+        for process in it.world.processes.values()
+        for fd, at in process.table.items()
+        if at.pipe is file.pipe and at.mode == "r"
+    ]
+    return all(isinstance(call, plain_model.WaitingOpen) and call.fd == fd for call, fd in ends)
 
 
 def is_stat_of_pipe(it: Difference) -> bool:
@@ -276,8 +434,51 @@ def name_fault(name: bytes) -> str | None:
 
 
 def is_own_name(it: Difference) -> bool:
-    """A name that the profile does not take."""
-    return has_own_name_fault(it) and it.gives("error EINVAL", "error ENAMETOOLONG", "error ENOENT")
+    """A name that the profile does not take, so that no file has it: the system answers as to another such name, or
+    with an error that is due of its bytes."""
+    if not has_own_name_fault(it) or not it.gives("error EINVAL", "error ENAMETOOLONG"):
+        return False
+    # one that leads out of the folder may lead to any file, and ask_kernel does not ask for it
+    if it.system == "not asked" or any(map(leads_out, it.names())):
+        return True
+    if it.system in ("error EINVAL", "error EILSEQ"):
+        return not all(PORTABLE.fullmatch(name) for name in it.names())
+    is_long = it.system == "error ENAMETOOLONG" and any(len(name) > NAME_MAX for name in it.names())
+    other = it.instead(act=with_names_taken(it))
+    return is_long or is_right(other, answer_in_copy(other))
+
+
+def leads_out(name: bytes) -> bool:
+    """Whether a name is none of a file in the folder."""
+    return name in (b".", b"..") or b"/" in name
+
+
+def with_names_taken(it: Difference) -> plain_model.Act:
+    """The act of a difference, with names in the place of those that the profile does not take; no file has these."""
+    taken: dict[bytes, bytes] = {}
+    for name in it.names():
+        if name_fault(name) in ("EINVAL", "ENAMETOOLONG"):
+            taken.setdefault(name, next(new for new in unused_names() if new not in {*it.world.names, *taken.values()}))
+    fields = [taken.get(field, field) if isinstance(field, bytes) else field for field in it.act.fields]
+    return it.act._replace(fields=tuple(fields))
+
+
+def unused_names() -> Iterator[bytes]:
+    """Names, one after another."""
+    return (b"unused%d" % number for number in itertools.count())
+
+
+def answer_in_copy(it: Difference) -> str:
+    """What fdref would answer to a call that changes nothing but names and descriptors: they are copied before."""
+    world = copy.copy(it.world)
+    world.names = dict(world.names)
+    world.processes = {number: copy.copy(process) for number, process in world.processes.items()}
+    process = world.processes[it.act.actor]
+    process.table = dict(process.table)
+    try:
+        return str(getattr(world, it.act.word)(process, *it.act.fields))
+    except plain_model.Errno as fault:
+        return f"error {fault}"
 
 
 def has_own_flags(it: Difference) -> bool:
@@ -287,22 +488,48 @@ def has_own_flags(it: Difference) -> bool:
 
 
 def is_own_flags(it: Difference) -> bool:
-    """Flags that the standard leaves undefined."""
-    return it.words("open") and it.gives("error EINVAL") and has_own_flags(it)
+    """Flags that the standard leaves undefined: whatever error there is, or a descriptor as of another open."""
+    if not it.words("open") or not it.gives("error EINVAL") or not has_own_flags(it):
+        return False
+    is_made = it.act.fields[0] in it.world.names or "creat" in it.flags()
+    return it.system == "not asked" or it.system.startswith("error ") or (is_made and is_opened(it))
+
+
+def is_opened(it: Difference) -> bool:
+    """Whether an open gives the lowest descriptor, or waits for the other end of a FIFO."""
+    waits = it.is_on_fifo() and "nonblock" not in it.flags() and it.system in ("parked 0", "parked ?")
+    return waits or it.system == str(free_descriptors(it)[0])
 
 
 def is_fifo_for_both(it: Difference) -> bool:
     """An open of a FIFO for reading and writing."""
-    is_refused = it.words("open") and it.gives("error EINVAL") and it.flags()[0] == "rw"
-    return is_refused and it.is_on_fifo() and it.system.isdigit()
+    is_refused = it.words("open") and it.gives("error EINVAL") and it.flags()[0] == "rw" and it.is_on_fifo()
+    return is_refused and (is_opened(it) or (it.system == "error EMFILE" and "EMFILE" in due(it)))
 
 
 def is_count(it: Difference) -> bool:
-    """More bytes than a call of the profile moves."""
+    """More bytes than a call of the profile moves: the system does what fdref would do without that limit."""
     is_asked = it.words("read", "pread", "write", "pwrite") and it.gives("error EINVAL") and it.count() > TRANSFER_MAX
-    if is_asked and it.words("write") and it.at and it.at.pipe:
-        return may_give(it, it.system) if it.world.has_end(it.at.pipe, "r") else it.system == "error EPIPE"
-    return is_asked and (it.succeeds() or it.system in ("error EFBIG", "error EPIPE", "error EAGAIN"))
+    if not is_asked or not it.at or (it.words("pread", "pwrite") and it.act.fields[1] < 0):
+        return False
+    return any(is_right(it, outcome) for outcome in without_limit(it, it.at))
+
+
+def without_limit(it: Difference, at: plain_model.Description) -> list[str]:
+    """What fdref would give for a transfer of more bytes. Of a read the driver may see no more than so many."""
+    pipe, count = at.pipe, it.count()
+    if it.words("read", "pread"):
+        if pipe and not pipe.data and it.world.has_end(pipe, "w"):
+            return ["error EAGAIN" if at.nonblock else "parked 0"]
+        given = [bytes(pipe.data)] if pipe else [at.regular.data.read(it.start(at), min(count, READ_MOST))]
+        return [plain_model.data_text(data) for data in given]
+    if not pipe:
+        room = it.world.limits.size - it.start(at)
+        return [str(min(count, room)) if room > 0 else "error EFBIG"]
+    if not it.world.has_end(pipe, "r"):
+        return ["error EPIPE"]
+    room = pipe.room()
+    return [f"parked {room}" if not at.nonblock else str(room) if room else "error EAGAIN"]
 
 
 def is_of_nothing(it: Difference) -> bool:
@@ -337,7 +564,37 @@ def is_turned(it: Difference) -> bool:
 
 def is_full(it: Difference) -> bool:
     """More processes than the profile has."""
-    return it.words("join", "fork") and it.gives("error EAGAIN") and not it.world.is_closed and it.system.isdigit()
+    is_refused = it.words("join", "fork") and it.gives("error EAGAIN") and not it.world.is_closed
+    return is_refused and it.system == str(it.world.next_number)
+
+
+def is_more_links(it: Difference) -> bool:
+    """More links than the profile has."""
+    return it.gives("error EMLINK") and it.system == "ok"
+
+
+def is_more_names(it: Difference) -> bool:
+    """More names than the profile has."""
+    return it.gives("error ENOSPC") and (is_opened(it) if it.words("open") else it.system == "ok")
+
+
+def is_more_descriptions(it: Difference) -> bool:
+    """More descriptions than the profile has."""
+    first, second = free_descriptors(it)
+    ends = (f"{first} {second}", f"{second} {first}")
+    return it.gives("error ENFILE") and (is_opened(it) if it.words("open") else it.system in ends)
+
+
+def free_descriptors(it: Difference) -> list[int]:
+    """The two lowest descriptors that a process has free, of a table without an end."""
+    table = it.process.table if it.process else {}
+    return [fd for fd in range(len(table) + 2) if fd not in table][:2]
+
+
+def gives_descriptors(it: Difference) -> bool:
+    """Whether a call gives descriptors that were free."""
+    form = plain_model.CALLS.get(it.act.word)
+    return form is not None and form.gives in (plain_model.DESCRIPTOR, plain_model.PAIR) and not it.words("dup2")
 
 
 # the act of the last line
@@ -362,31 +619,26 @@ REASONS = [
     Reason("lseek past the greatest file of the file system is EINVAL", SYSTEM, "page of lseek", is_lseek_past_files),
     Reason("offset and count pass the greatest offset: EINVAL", SYSTEM, "pages of read and write", is_offset_and_count),
     Reason("ftruncate past the size limit is EINVAL, not EFBIG", OWN, "page of ftruncate", is_length_too_large),
+    Reason("names that the profile does not take", OWN, "XBD 3, Portable Filename Character Set", is_own_name),
+    Reason("ftruncate of a pipe", OWN, "page of ftruncate", is_ftruncate_of_pipe),
     Reason("order of refusals, where several are due", OWN, "XSH 2.3", is_order),
-    Reason("nonblock set while a write waits", OWN, "pages of fcntl and write", is_set_while_it_waits),
+    Reason("nonblock set while a write waits", OWN, "pages of fcntl and write", is_set_while_write_waits),
+    Reason("nonblock set while a read waits", OWN, "pages of fcntl and read", is_set_while_read_waits),
+    Reason("EPIPE of a write that has moved a part", OWN, "page of write", is_broken),
+    Reason("who of several writers gets the room of a pipe", OWN, "page of write", is_split_room),
+    Reason("a FIFO whose reader waits in its open", OWN, "page of open", is_reader_waiting),
     Reason("a write of no bytes to a pipe", OWN, "page of write", is_write_of_nothing),
     Reason("errors of a call of no bytes", OWN, "pages of read and write", is_unchecked),
     Reason("room of a pipe that is counted in pages", OWN, "page of write", is_paged_room),
     Reason("room of a pipe", OWN, "page of write", is_room),
     Reason("which end of a pipe has the lower number", OWN, "page of pipe", is_turned),
     Reason("size and links of a pipe in fstat", OWN, "page of fstat", is_stat_of_pipe),
-    Reason("names that the profile does not take", OWN, "XBD 3, Portable Filename Character Set", is_own_name),
     Reason("flags that the standard leaves undefined", OWN, "page of open", is_own_flags),
     Reason("a FIFO opened for both", OWN, "page of open", is_fifo_for_both),
     Reason("more than 65,536 bytes in a call", OWN, "pages of read and write", is_count),
-    Reason("more than 8 links", OWN, "page of link", lambda it: it.gives("error EMLINK") and it.succeeds()),
-    Reason(
-        "more than 1,024 names",
-        OWN,
-        "pages of open, link and mkfifo",
-        lambda it: it.gives("error ENOSPC") and it.succeeds(),
-    ),
-    Reason(
-        "more than 1,024 descriptions",
-        OWN,
-        "pages of open and pipe",
-        lambda it: it.gives("error ENFILE") and it.succeeds(),
-    ),
+    Reason("more than 8 links", OWN, "page of link", is_more_links),
+    Reason("more than 1,024 names", OWN, "pages of open, link and mkfifo", is_more_names),
+    Reason("more than 1,024 descriptions", OWN, "pages of open and pipe", is_more_descriptions),
     Reason("more than 64 processes", OWN, "page of fork", is_full),
 ]
 APPENDED = next(reason for reason in REASONS if reason.fits is is_pwrite_appended)
@@ -397,105 +649,7 @@ def reason_of(difference: Difference) -> Reason | None:
     return next((reason for reason in REASONS if reason.fits(difference)), None)
 
 
-# ---- limits
-
-
-def free_descriptors(it: Difference) -> list[int]:
-    """The two lowest descriptors that a process has free, of a table without an end."""
-    table = it.process.table if it.process else {}
-    return [fd for fd in range(len(table) + 2) if fd not in table][:2]
-
-
-def gives_descriptors(it: Difference) -> bool:
-    """Whether a call gives descriptors that were free."""
-    form = plain_model.CALLS.get(it.act.word)
-    return form is not None and form.gives in (plain_model.DESCRIPTOR, plain_model.PAIR) and not it.words("dup2")
-
-
-def is_more_descriptors(it: Difference) -> bool:
-    """A descriptor past those of the profile: of those that are free the lowest, or the one that dup2 is given."""
-    if it.words("dup2"):
-        return it.at is not None and it.act.fields[1] >= OPEN_MAX and it.system == str(it.act.fields[1])
-    first, second = free_descriptors(it)
-    given = [f"{first} {second}", f"{second} {first}"] if it.words("pipe") else [str(first)]
-    return gives_descriptors(it) and it.gives("error EMFILE") and it.system in given
-
-
-def is_fewer_descriptors(it: Difference) -> bool:
-    """A descriptor that a system does not have, though the profile has: none of those that each system has."""
-    if it.fdref.startswith("error "):
-        return False
-    if it.words("dup2"):
-        return it.act.fields[1] >= OPEN_LEAST and it.system == "error EBADF"
-    is_past = free_descriptors(it)[1 if it.words("pipe") else 0] >= OPEN_LEAST
-    return gives_descriptors(it) and it.system == "error EMFILE" and is_past
-
-
-def is_larger_file(it: Difference) -> bool:
-    """A file that is larger than those of the profile."""
-    if it.words("ftruncate"):
-        return it.gives("error EFBIG") and it.system == "ok"
-    if not it.words("write", "pwrite") or not it.at or it.at.pipe or it.system != str(it.count()):
-        return False
-    end = it.start(it.at) + it.count()
-    return it.world.limits.size < end <= OFFSET_MAX and (it.gives("error EFBIG") or it.fdref.isdigit())
-
-
-def is_smaller_file(it: Difference) -> bool:
-    """A file that is smaller than those of the profile, and as large as each system has them."""
-    if it.words("ftruncate"):
-        is_past = it.gives("ok") and it.act.fields[1] > SIZE_LEAST
-        return is_past and it.system in ("error EFBIG", "error EINVAL")
-    if not it.words("write", "pwrite") or not it.at or it.at.pipe or not it.fdref.isdigit():
-        return False
-    if it.system == "error EFBIG":
-        return it.count() > 0 and it.start(it.at) >= SIZE_LEAST
-    is_part = it.system.isdigit() and 0 < int(it.system) < int(it.fdref)
-    return is_part and it.start(it.at) + int(it.system) >= SIZE_LEAST
-
-
-def is_no_space(it: Difference) -> bool:
-    """A name that is to be made, or bytes that are to be written, for which a file system has no space."""
-    if it.system != "error ENOSPC" or it.fdref.startswith("error "):
-        return False
-    if it.words("write", "pwrite"):
-        return it.at is not None and not it.at.pipe and it.count() > 0
-    is_made = it.words("mkfifo", "link", "rename") or (it.words("open") and "creat" in it.flags())
-    return is_made and it.names()[-1] not in it.world.names
-
-
-def is_many_files(it: Difference) -> bool:
-    """A file that a system does not open, since too many are open in it."""
-    return it.words("open", "pipe") and it.system == "error ENFILE" and not it.fdref.startswith("error ")
-
-
-def is_no_process(it: Difference) -> bool:
-    """A child for which a system has no room."""
-    return it.words("fork") and it.fdref.isdigit() and it.system in ("error EAGAIN", "error ENOMEM")
-
-
-def is_long_name(it: Difference) -> bool:
-    """A name that is too long for a system, and longer than those that each system takes."""
-    return it.system == "error ENAMETOOLONG" and any(len(name) > NAME_LEAST for name in it.names())
-
-
-# Reasons by limits of a system, which the standard leaves open. Scripts that are compared do not have them: what runs
-# them sets the limits of the profile.
-LIMITS = [
-    Reason("more than 32 descriptors", OWN, "XBD limits.h, OPEN_MAX", is_more_descriptors),
-    Reason("fewer than 32 descriptors", OWN, "XBD limits.h, _POSIX_OPEN_MAX", is_fewer_descriptors),
-    Reason("more than 1,099,511,627,776 bytes in a file", OWN, "page of write", is_larger_file),
-    Reason("fewer than 1,099,511,627,776 bytes in a file", OWN, "XBD limits.h, FILESIZEBITS", is_smaller_file),
-    Reason("no space in the file system", OWN, "pages of open, mkfifo, link, rename and write", is_no_space),
-    Reason("too many files open in the system", OWN, "pages of open and pipe", is_many_files),
-    Reason("no room for a child", OWN, "page of fork", is_no_process),
-    Reason("names of at most 64 bytes that are too long", OWN, "XBD limits.h, _POSIX_NAME_MAX", is_long_name),
-]
-
-
-def reason_or_limit(difference: Difference) -> Reason | None:
-    """The first reason that fits a difference, or the limit."""
-    return reason_of(difference) or next((reason for reason in LIMITS if reason.fits(difference)), None)
+# ---- telling
 
 
 def told_reason(reason: Reason | None, what: str = "reason") -> str:

@@ -1,14 +1,14 @@
 """Scripts for a system and fdref: random ones, and the acts that look at what a script has left."""
 
 import random
-from collections.abc import Callable, Iterator
+from collections.abc import Callable, Collection, Iterator
 
 from support import plain_model, walks
 from support.contents import BLOCK
 from support.plain_model import DEFAULTS, OPEN_MAX, TRANSFER_MAX, Limits
 from support.runs import Settled, line_of
 
-from compare_reasons import is_append, process_of
+from compare_reasons import is_append, name_fault, names_of, process_of
 from compare_runs import is_told_back
 
 # ---- looks
@@ -31,7 +31,8 @@ def with_looks(lines: list[bytes], limits: Limits = DEFAULTS) -> list[bytes]:
         if act.word == "setfl":
             looked_at |= {number for number, it in beside.world.processes.items() if it.waits}
         looked += [b"p%d resume" % number for number in sorted(looked_at)]
-    return looked + [text.encode() for text in last_looks(beside.world)]
+    named = {name for line in lines for name in names_of(plain_model.read_act(line))}
+    return looked + [text.encode() for text in last_looks(beside.world, named)]
 
 
 def come_back(beside: Settled, seen: int) -> set[int]:
@@ -42,9 +43,10 @@ def come_back(beside: Settled, seen: int) -> set[int]:
     return {number for number in back if not beside.world.processes[number].waits}
 
 
-def last_looks(world: plain_model.World) -> list[str]:
-    """Acts that look at all that can be reached in a world, at the contents of pipes last. Whether a process waits is
-    asked of each, since one that does not wait in this world may wait on a system."""
+def last_looks(world: plain_model.World, named: Collection[bytes]) -> list[str]:
+    """Acts that look at all that can be reached in a world, and at the names that were there or may be, at the contents
+    of pipes last. Whether a process waits is asked of each, since one that does not wait in this world may wait on a
+    system."""
     live = list(world.processes.values())
     awake = [it for it in live if not it.waits]
     looks = [f"p{it.number} attach" for it in live if not it.attached]
@@ -55,7 +57,9 @@ def last_looks(world: plain_model.World) -> list[str]:
             # what fstat tells of a pipe without a name is the profile's own
             looks += [f"p{it.number} fstat {fd}"] if at.file.kind != "pipe" else []
             looks += [f"p{it.number} lseek {fd} 0 cur", *contents(it, fd, at.regular)] if not at.pipe else []
-    looks += [look for it in awake if len(it.table) < OPEN_MAX for look in by_name(world, it)][:200]
+    able = [it for it in awake if len(it.table) < OPEN_MAX]
+    looks += [look for it in able for look in by_name(world, it)][:200]
+    looks += [look for it in able[:1] for look in at_other_names(world, it, named)][:200]
     # closed before those that wait are ended, so that readers come to the end
     looks += [
         f"p{it.number} close {fd}" for it in awake for fd, at in sorted(it.table.items()) if at.pipe and at.mode == "w"
@@ -81,6 +85,25 @@ def by_name(world: plain_model.World, process: plain_model.Process) -> Iterator[
         if isinstance(file, plain_model.Regular):
             yield from [f"p{process.number} open {plain_model.name_text(name)} r", f"p{process.number} fstat {fd}"]
             yield from [*contents(process, fd, file), f"p{process.number} close {fd}"]
+
+
+def at_other_names(world: plain_model.World, process: plain_model.Process, named: Collection[bytes]) -> Iterator[str]:
+    """Acts by which a process finds a FIFO at each name of one, and nothing at a name that leads nowhere any more. A
+    process that waits for a reader of such a FIFO has one then."""
+    fd = plain_model.lowest_free(process)[0]
+    for name in sorted({*world.names, *named}):
+        file = world.names.get(name)
+        if not isinstance(file, plain_model.Regular) and not name_fault(name):
+            yield f"p{process.number} open {plain_model.name_text(name)} r,nonblock"
+        if isinstance(file, plain_model.Fifo):
+            yield from [f"p{process.number} fstat {fd}", f"p{process.number} close {fd}"]
+            yield from (f"p{it.number} resume" for it in world.processes.values() if waits_for_reader(it, file))
+
+
+def waits_for_reader(process: plain_model.Process, file: plain_model.Fifo) -> bool:
+    """Whether a process waits in its open of a FIFO until somebody opens that for reading."""
+    call = process.waits
+    return isinstance(call, plain_model.WaitingOpen) and (call.fifo, call.other) == (file, "r")
 
 
 # ---- random scripts

@@ -13,10 +13,11 @@ searched for with the plain model of the tests, and then run through `fdref repl
 the program, and each was compared with the history. A call that waits has a line where it begins to wait, and one for
 each resume.
 
-In fdref a pipe has room for 1,024 bytes, or for as many as --pipe-capacity says. Where no order explains a history with
-a pipe or FIFO, one is searched for with pipes of 65,536 bytes, and run through `fdref replay --pipe-capacity 65536`. If
-there is one the history has a reason, `room of a pipe (own)`: the standard leaves it open. So it does which end of a
-pipe has the lower number. Where that is the writing one, dup2 and close are added, and the ends change places.
+In fdref a pipe has room for 1,024 bytes, or for as many as --pipe-capacity says. Without that, where no order explains
+a history with a pipe or FIFO, one is searched for with pipes of 65,536 bytes, and run through `fdref replay
+--pipe-capacity 65536`. If there is one the history has a reason, `room of a pipe (own)`: the standard leaves it open.
+So it does which end of a pipe has the lower number. Where that is the writing one, dup2 and close are added, and the
+ends change places.
 
 So has a history in which no calls overlap, where each call that fdref answers otherwise has one of tools/compare.py
 that is its own choice. After the first that succeeds in one of the two alone, the rest is not compared; that is told.
@@ -42,7 +43,7 @@ from collections.abc import Sequence
 from pathlib import Path
 from typing import NamedTuple
 
-from support.commands import add_capacity, add_program, program_of
+from support.commands import ChosenLimits, add_capacity, add_program, program_of
 from support.histories import BadHistory, Noted, form, history_text, read_histories
 from support.ordering import (
     ROOMY,
@@ -64,7 +65,8 @@ from support.runs import Line
 from support.texts import several
 
 import apart
-from compare_reasons import OWN, reason_or_limit, told_reason
+from compare_limits import reason_or_limit
+from compare_reasons import OWN, told_reason
 
 # The reason of a history that only larger pipes explain.
 BY_ROOM = "reason: room of a pipe (own; page of write)"
@@ -92,6 +94,8 @@ class Orders:
         self.program = program
         self.args = args
         self.is_one = is_one
+        # whether it is known how many bytes a pipe of the system holds
+        self.has_room = isinstance(args.limits, ChosenLimits)
         self.known: dict[tuple[object, ...], tuple[int, Result | ByRoom | Chosen]] = {}
         self.counts = {Explained: 0, Unexplained: 0, GivenUp: 0, ByRoom: 0, Chosen: 0}
 
@@ -128,7 +132,7 @@ class Orders:
         result = explain(history, *most, shrink_seconds=0, limits=self.args.limits)
         if not isinstance(result, Unexplained):
             return result
-        return by_room(history, *most) or self.unexplained(history)
+        return (None if self.has_room else by_room(history, *most)) or self.unexplained(history)
 
     def unexplained(self, history: Sequence[Noted]) -> Result | Chosen:
         """Why no order explains a history."""
@@ -152,7 +156,7 @@ class Orders:
         if not found or not found.reason or not isinstance(result, Unexplained):
             return result
         self.confirm(ordered, found)
-        hint = CAPACITY if apart.is_of_room(found.reason) else ""
+        hint = CAPACITY if apart.is_of_room(found.reason) and not self.has_room else ""
         return result._replace(page=f"{result.page}\n{told_reason(found.reason, 'perhaps')}{hint}")
 
     def chosen(self, found: Sequence[apart.Apart], after: Sequence[Noted]) -> Chosen:

@@ -39,12 +39,12 @@ import signal
 import sys
 import tempfile
 import time
-from collections.abc import Callable, Iterator, Sequence
+from collections.abc import Callable, Iterator, Mapping, Sequence
 from pathlib import Path
 from typing import NamedTuple, Self
 
 from support import histories, ordering, outcomes, plain_model, replaying, summaries
-from support.commands import add_capacity, add_program, capacity_words, program_of
+from support.commands import ChosenLimits, add_capacity, add_program, capacity_words, program_of
 from support.counting import Failure
 from support.drivers import compiled
 from support.histories import History, Noted
@@ -57,6 +57,7 @@ from support.texts import several
 import apart
 import race_kinds
 import race_table
+from compare_limits import reason_or_limit
 
 # A script takes a share of the time; it has so many rounds, at least and at most, and a first guess of their speed.
 ROUNDS_LEAST = 10
@@ -110,8 +111,17 @@ class Race:
 
     def written(self) -> set[int]:
         """The bytes of all writes, and 0."""
-        data = [noted.act.fields[-1] for noted in self.history if noted.act.word in ("write", "pwrite")]
-        return {0}.union(*data)
+        return {0}.union(*(noted.act.fields[-1] for noted in self.writes()))
+
+    def writes(self) -> list[Noted]:
+        """All writes."""
+        return [noted for noted in self.history if noted.act.word in ("write", "pwrite")]
+
+    def longest(self) -> int:
+        """How many bytes a file may have at the most by these writes, of which some may append."""
+        ends = [noted.act.fields[1] + len(noted.act.fields[2]) for noted in self.writes() if noted.act.word == "pwrite"]
+        appended = [noted for noted in self.writes() if noted.act.word == "write" or "append" in self.script]
+        return max(ends, default=0) + sum(len(noted.act.fields[-1]) for noted in appended)
 
 
 def world_after(history: History, limits: Limits) -> plain_model.World:
@@ -123,18 +133,19 @@ def world_after(history: History, limits: Limits) -> plain_model.World:
 
 
 class Reason(NamedTuple):
-    """Why a system may give answers that no order explains: the page of the standard, and whether the answer of a call
-    is doubted because of another one that overlaps it. It fits where an order explains all but what is doubted."""
+    """Why a system may give answers that no order explains: the page of the standard, and what is left of the answer of
+    a call that is doubted because of another one that overlaps it. It fits where an order explains all but what is
+    doubted."""
 
     name: str
     page: str
-    doubts: Callable[[Race, Noted, Noted], bool]
+    doubts: Callable[[Race, Noted, Noted], str | None]
 
-    def doubted(self, race: Race) -> list[Noted]:
-        """The calls whose answers it doubts."""
+    def doubted(self, race: Race) -> dict[int, str]:
+        """What is left of the answers that it doubts, for the `id` of each call."""
         pairs = itertools.permutations(race.calls, 2)
-        found = {id(one): one for one, other in pairs if overlap(one, other) and self.doubts(race, one, other)}
-        return list(found.values())
+        found = ((id(one), self.doubts(race, one, other)) for one, other in pairs if overlap(one, other))
+        return {call: left for call, left in found if left is not None}
 
     def fits(self, race: Race) -> bool:
         """Whether an order explains a history without what is doubted."""
@@ -144,11 +155,13 @@ class Reason(NamedTuple):
 
 
 class RoomReason(Reason):
-    """The reason that a pipe of the system has more room than one of the profile: an order explains all with that."""
+    """The reason that a pipe of the system has more room than one of the profile: an order explains all with that. It
+    is none where it was said how much room there is."""
 
     def fits(self, race: Race) -> bool:
         """Whether an order explains a history where pipes are larger."""
-        return ordering.by_room(race.history, STATES_MOST, SEARCH_SECONDS) is not None
+        is_known = isinstance(race.limits, ChosenLimits)
+        return not is_known and ordering.by_room(race.history, STATES_MOST, SEARCH_SECONDS) is not None
 
 
 class LinkReason(Reason):
@@ -164,37 +177,42 @@ def overlap(one: Noted, other: Noted) -> bool:
     return not one.precedes(other) and not other.precedes(one)
 
 
-def is_torn(race: Race, one: Noted, other: Noted) -> bool:
-    """A read of a regular file while it is written to or its length is set, not under the lock of one offset."""
+def is_torn(race: Race, one: Noted, other: Noted) -> str | None:
+    """A read of a regular file while it is written to or its length is set, not under the lock of one offset: it may
+    give any of the bytes that are written."""
     data = plain_model.read_data(one.outcome.encode())
     if one.act.word not in ("read", "pread") or other.act.word not in ("write", "pwrite", "ftruncate") or data is None:
-        return False
+        return None
     at = race.description(one)
     has_no_lock = at is not None and not at.pipe and at is race.description(other)
     has_no_lock = has_no_lock and (one.act.word, other.act.word) != ("read", "write")
-    return (has_no_lock or race.are_apart(one, other)) and set(data) <= race.written()
+    is_given = len(data) <= one.act.fields[-1] and set(data) <= race.written()
+    return histories.UNKNOWN if is_given and (has_no_lock or race.are_apart(one, other)) else None
 
 
-def is_growing(race: Race, one: Noted, other: Noted) -> bool:
-    """A length that is told in whole pages while a write of several pages goes on."""
+def is_growing(race: Race, one: Noted, other: Noted) -> str | None:
+    """A length that is told in whole pages while a write of several pages goes on: of an fstat the links are left."""
     if other.act.word not in ("write", "pwrite") or len(other.act.fields[-1]) < PAGE:
-        return False
+        return None
     is_told = one.act.word == "fstat" or (one.act.word, one.act.fields[2:]) == ("lseek", ("end",))
-    length = one.outcome.split(" ")[1 if one.act.word == "fstat" else 0] if is_told else "-"
-    return race.are_apart(one, other) and length.isdigit() and int(length) % PAGE == 0
+    kind, length, *links = one.outcome.split(" ") if one.act.word == "fstat" else ("", one.outcome if is_told else "-")
+    is_of_pages = length.isdigit() and int(length) % PAGE == 0 and int(length) <= race.longest()
+    if not is_of_pages or not race.are_apart(one, other):
+        return None
+    return " ".join([kind, histories.UNKNOWN, *links]) if kind else histories.UNKNOWN
 
 
-def is_early(_: Race, one: Noted, other: Noted) -> bool:
-    """The links of a file that are told while a rename goes on, which may take one away."""
-    return one.act.word == "fstat" and one.outcome.startswith("regular ") and other.act.word == "rename"
+def is_early(_: Race, one: Noted, other: Noted) -> str | None:
+    """The links of a file that are told while a rename goes on, which may take one away: kind and size are left."""
+    is_told = one.act.word == "fstat" and one.outcome.startswith("regular ") and other.act.word == "rename"
+    return " ".join([*one.outcome.split(" ")[:2], histories.UNKNOWN]) if is_told else None
 
 
-def is_never(*_: object) -> bool:
+def is_never(*_: object) -> None:
     """Nothing is doubted."""
-    return False
 
 
-def is_either(race: Race, one: Noted, other: Noted) -> bool:
+def is_either(race: Race, one: Noted, other: Noted) -> str | None:
     """Either of both."""
     return is_torn(race, one, other) or is_growing(race, one, other)
 
@@ -211,10 +229,9 @@ REASONS = [
 ]
 
 
-def without(history: History, doubted: Sequence[Noted]) -> list[Noted]:
-    """A history in which nothing is known of the answers of some calls."""
-    gone = set(map(id, doubted))
-    return [noted._replace(outcome=histories.UNKNOWN) if id(noted) in gone else noted for noted in history]
+def without(history: History, doubted: Mapping[int, str]) -> list[Noted]:
+    """A history in which so much is known of the answers of some calls."""
+    return [noted._replace(outcome=doubted.get(id(noted), noted.outcome)) for noted in history]
 
 
 def explained(history: History, limits: Limits = DEFAULTS, shrink_seconds: float = 0) -> ordering.Result:
@@ -518,15 +535,13 @@ def race_file(args: argparse.Namespace, asked: Asked) -> int:
     program = [asked.program] if isinstance(asked.program, str) else asked.program
     states = [] if args.states is None else ["--states", str(args.states)]
     table = race_table.Table(race, race_table.allowed_by(program, race, [*capacity_words(asked.limits), *states]))
-    first: History | None = None
     for found in raced(asked, script, args.seed, FILE_SECONDS if args.seconds is None else args.seconds):
-        first = first or found[0]
         table.add(found)
-    if first:
-        print("".join(f"{line}\n" for line in race_table.setup_differs(program, race, first, asked.limits)), end="")
-    odd = table.odd(lambda history: reason_without_order(asked, script, history))
+    is_setup_bare = any([tell_setup(asked, race, history) for history in table.setups.values()])
+    seconds = max(FILE_SECONDS, args.seconds or 0)
+    odd = table.odd(lambda history: reason_without_order(asked, script, history), time.monotonic() + seconds)
     setup = replaying.replayed(program, [act for _, act in race.setup], asked.limits)
-    until = time.monotonic() + max(FILE_SECONDS, args.seconds or 0)
+    until = time.monotonic() + seconds
     untimely = table.untimely(lambda history: judged_by_times(asked, script, with_setup(history, setup)), until)
     print("\n".join(table.lines(odd, lambda history: perhaps(asked, history), untimely.odd)), flush=True)
     bare = [it for it in [*odd, *untimely.odd] if it.reason is None]
@@ -535,7 +550,16 @@ def race_file(args: argparse.Namespace, asked: Asked) -> int:
     for it in bare if args.keep else []:
         keep_files(Unexplained(script, it.history, None), Path(args.file).stem, args.keep)
     print("\n".join(table.last_lines(odd, untimely)))
-    return 1 if bare else 0
+    return 1 if bare or is_setup_bare else 0
+
+
+def tell_setup(asked: Asked, race: outcomes.Race, history: History) -> bool:
+    """Tells what the system has answered otherwise than fdref before a race, and the reason: whether there is none."""
+    program = [asked.program] if isinstance(asked.program, str) else asked.program
+    lines = race_table.setup_differs(program, race, history, asked.limits)
+    found = apart.parted_with_room(history[: len(race.setup)], asked.limits, reason_or_limit) if lines else []
+    print("".join(f"{line}\n" for line in [*lines, *(race_table.why(choice_of(it)) for it in found)]), end="")
+    return any(it.reason is None for it in found)
 
 
 def with_setup(history: History, setup: Sequence[Line]) -> list[Noted]:
@@ -554,6 +578,11 @@ class Choice(NamedTuple):
 def choice(asked: Asked, found: apart.Apart, ordered: Sequence[Noted]) -> Choice | None:
     """The reason why fdref answers a call otherwise, which it has to answer as the model does."""
     apart.confirm(asked.program, ordered[: found.place + 1], found.limits)
+    return choice_of(found)
+
+
+def choice_of(found: apart.Apart) -> Choice | None:
+    """The reason of a call that fdref answers otherwise, if it has one."""
     return Choice(f"{found.reason.name} ({found.reason.who})", found.reason.page) if found.reason else None
 
 

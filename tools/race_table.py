@@ -20,8 +20,8 @@ from support.running import CannotRun, run
 from support.texts import several
 
 SECONDS = 600
-# How many histories with the same answers are looked at for a reason, at most, and how many are kept.
-JUDGED_MOST, FORMS_MOST = 3, 1_000
+# How many histories with the same answers are looked at for a reason, at least, and how many are kept.
+JUDGED_LEAST, FORMS_MOST = 3, 1_000
 # How many characters of an outcome are shown.
 WIDTH = 110
 
@@ -136,25 +136,35 @@ class Table:
         self.race = race
         self.allowed = allowed
         self.seen: dict[str, Seen] = {}
+        # of each answers before the race a history
+        self.setups: dict[tuple[str, ...], History] = {}
 
     def add(self, found: Iterable[History]) -> None:
         """Counts histories."""
         for history in found:
             check_calls(self.race, history)
+            self.setups.setdefault(tuple(noted.outcome for noted in history[: len(self.race.setup)]), history)
             self.seen.setdefault(seen_in(self.race, history), Seen()).add(history)
 
     def rounds(self) -> int:
         """How many histories were counted."""
         return sum(seen.count for seen in self.seen.values())
 
-    def odd(self, reason_of: Callable[[History], Reasoned | None]) -> list[Odd]:
-        """What was seen and is not allowed, what came most often first."""
+    def odd(self, reason_of: Callable[[History], Reasoned | None], until: float = 0) -> list[Odd]:
+        """What was seen and is not allowed, what came most often first. Of histories with the same answers some are
+        judged in any case, and the others until a time has come."""
         found = []
         for text, seen in sorted(self.seen.items(), key=lambda entry: -entry[1].count):
-            if text not in self.allowed:
-                judged = [(reason_of(history), history) for history in [*seen.forms.values()][:JUDGED_MOST]]
+            if text in self.allowed:
+                continue
+            judged: list[tuple[Reasoned | None, History]] = []
+            for history in seen.forms.values():
                 # one history without a reason is told, where there is one
-                found.append(Odd(text, seen.count, *min(judged, key=lambda it: it[0] is not None)))
+                is_bare = bool(judged) and judged[-1][0] is None
+                if is_bare or (len(judged) >= JUDGED_LEAST and time.monotonic() > until):
+                    break
+                judged.append((reason_of(history), history))
+            found.append(Odd(text, seen.count, *min(judged, key=lambda it: it[0] is not None)))
         return found
 
     def untimely(self, judge: Callable[[History], Judged], until: float) -> Untimely:
@@ -197,9 +207,8 @@ class Table:
     def odd_lines(self, it: Odd, perhaps: Callable[[History], Reasoned | None]) -> list[str]:
         """The lines of an outcome that is not allowed."""
         reason = it.reason or perhaps(it.history)
-        why = f"{reason.name} ({reason.page})" if reason else "no reason is known"
         may_be = "perhaps: " if reason and not it.reason else ""
-        return [row(it.count, self.allowed.get(it.text, "-"), it.text), f"{'':14}{may_be}{why}"]
+        return [row(it.count, self.allowed.get(it.text, "-"), it.text), why(reason, may_be)]
 
     def last_lines(self, odd: Sequence[Odd], untimely: Untimely) -> list[str]:
         """The counts. Before them stands how many outcomes have times at which they are not allowed, and of how many
@@ -218,6 +227,11 @@ class Table:
 def bare(odd: Iterable[Odd]) -> int:
     """How many have no reason."""
     return sum(it.reason is None for it in odd)
+
+
+def why(reason: Reasoned | None, may_be: str = "") -> str:
+    """The line of a reason, if there is one."""
+    return f"{'':14}{may_be}" + (f"{reason.name} ({reason.page})" if reason else "no reason is known")
 
 
 def row(count: int, number: int | str, text: str) -> str:

@@ -16,11 +16,12 @@ import compare_runs
 SECONDS = 120
 
 
-def compared(program: str, folder: str, way: str, script: str, words: Sequence[str] = ()) -> Ran:
-    """Runs tools/compare.py on a script, which a driver runs that is wrong in a way."""
+def compared(program: str, folder: str, way: str, script: str, words: Sequence[str] = (), end: str = "") -> Ran:
+    """Runs tools/compare.py on a script, which a driver runs that is wrong in a way, and in what its lines go into."""
     path = Path(folder, "asked.script")
     path.write_text(script)
     driver = shlex.join([sys.executable, str(STAND_INS / "wrong_driver.py"), way])
+    driver = shlex.join(["sh", "-c", driver + end]) if end else driver
     command = [sys.executable, str(TOOLS / "compare.py"), "--program", program, "--ask", driver]
     return run([*command, *words, str(path)], seconds=SECONDS)
 
@@ -66,6 +67,118 @@ def sleep_is_told(program: str, folder: str, way: str, script: str, page: str) -
 
 # a reader that the closing of the last writer does not wake is seen in the looks at the end, too
 ENDED = f"{FORKED}p1 close 1\np1 read 0 1\n"
+
+
+# Scripts in which a call has to wait on, and what it answers too early.
+WAKES = {
+    "wakes-readers-early": (f"{FORKED}p0 read 0 1\n", "x"),
+    "wakes-openers-early": ("join\np0 mkfifo f\np0 open f r\n", "0"),
+    "wakes-writers-early": (f"{FORKED}p0 write 1 61*1024\np0 write 1 x6162\n", "2"),
+}
+
+
+def early_is_told(program: str, folder: str, way: str, script: str, answer: str) -> None:
+    """A call that comes back too early is a difference without a reason."""
+    same(0, compared(program, folder, "none", script).status)
+    done = compared(program, folder, way, script)
+    lines = done.stdout.decode().splitlines()
+    place = next((place for place, line in enumerate(lines) if line.startswith("system: ")), len(lines))
+    require(done.status == 1 and lines[place].endswith(f" p0 resume = {answer}"), done.said())
+    require(lines[place + 1].endswith(" p0 resume = still") and lines[place + 2] == "reason: none", f"{lines}")
+
+
+# Writes of which it is not seen how much went in, which can come back at last.
+LARGE_SLEEPS = {
+    "read-wakes-nobody": f"{FORKED}p0 write 1 61*1024\np0 write 1 62*600\np1 read 0 1024\n",
+    "last-reader-wakes-nobody": f"{FORKED}p0 close 0\np0 write 1 61*1024\np0 write 1 62*600\np1 close 0\n",
+}
+
+
+def large_sleep_is_told(program: str, folder: str, way: str, script: str) -> None:
+    """A large write that can come back, and waits on, is a difference without a reason."""
+    same(0, compared(program, folder, "none", script).status)
+    done = compared(program, folder, way, script)
+    lines = done.stdout.decode().splitlines()
+    place = next((place for place, line in enumerate(lines) if line.startswith("system: ")), len(lines))
+    require(done.status == 1 and lines[place].endswith(" p0 resume = ?"), done.said())
+    same(["reason: none", SLEEPS[way][1]], lines[place + 2 : place + 4])
+
+
+# Two large writes that wait, and a read that leaves room for some of what they have left.
+THREE = f"{FORKED}p0 fork\np2 attach\np0 write 1 61*1024\np0 write 1 62*600\np1 write 1 63*900\n"
+
+
+def other_is_served(program: str, folder: str) -> None:
+    """Whoever of two writes gets the room, nothing differs; where none gets any, that is told."""
+    script = f"{THREE}p2 read 0 600\np2 read 0 65536\n"
+    for way in ("none", "serves-the-last-first"):
+        done = compared(program, folder, way, script)
+        require(done.status == 0 and b" 0 differences\n" in done.stdout, done.said())
+    done = compared(program, folder, "read-wakes-nobody", f"{THREE}p2 read 0 1024\n")
+    require(done.status == 1 and b" p0 resume = ?\nfdref:  10 p0 resume = 600\n" in done.stdout, done.said())
+
+
+# ---- right systems
+
+# What a system does otherwise, with a script that shows it, the line of fdref, and the reason.
+OTHERWISE = [
+    (
+        "no-part-without-a-reader",
+        f"{FORKED}p0 close 0\np0 write 1 61*1500\np1 close 0\n",
+        "p0 resume = 1024",
+        "EPIPE of a write that has moved a part (own; page of write)",
+    ),
+    (
+        "nonblock-ends-a-read",
+        f"{FORKED}p0 read 0 1\np1 setfl 0 -,nonblock\n",
+        "p0 resume = still",
+        "nonblock set while a read waits (own; pages of fcntl and read)",
+    ),
+]
+
+
+# What comes after a pipe whose ends are turned is compared, and what is wrong in it is told.
+TURNED = f"{FORKED}p0 close 0\np1 close 1\np0 write 1 x6162\np1 read 0 1\np1 pipe\np1 write 2 x63\np1 read 1 9\n"
+WRONG_AFTER = "sed 's/^\\([0-9]* p1 read 1 9\\) = x63$/\\1 = x64/'"
+
+
+def turned_is_compared(program: str, folder: str) -> None:
+    """Nothing is struck, and a wrong answer is found."""
+    done = compared(program, folder, "turns-pipes", TURNED)
+    require(done.status == 0 and b"struck" not in done.stdout and b"not compared" not in done.stdout, done.said())
+    require(b"\n       2 which end of a pipe has the lower number" in done.stdout, done.said())
+    done = compared(program, folder, "turns-pipes", TURNED, end=f" | {WRONG_AFTER}")
+    wrong = b"system: 10 p1 read 1 9 = x64\nfdref:  10 p1 read 1 9 = x63"
+    require(done.status == 1 and wrong in done.stdout, done.said())
+
+
+# ---- names that lead elsewhere
+
+# Ways of a wrong system, a script that shows each, the last line of the system, and what fdref gives.
+LED_ASTRAY = [
+    ("mkfifo-makes-a-file", "join\np0 mkfifo f\n", "p0 fstat 0 = regular 0 1", "fifo 0 1"),
+    ("unlink-leaves-the-name", "join\np0 mkfifo f\np0 unlink f\n", "p0 open f r,nonblock = 0", "error ENOENT"),
+    ("rename-leaves-the-name", "join\np0 mkfifo f\np0 rename f g\n", "p0 open f r,nonblock = 0", "error ENOENT"),
+]
+
+
+def name_is_told(program: str, folder: str, way: str, script: str, line: str, wanted: str) -> None:
+    """A name that leads elsewhere is a difference without a reason."""
+    same(0, compared(program, folder, "none", script).status)
+    done = compared(program, folder, way, script)
+    lines = done.stdout.decode().splitlines()
+    place = next((place for place, line in enumerate(lines) if line.startswith("system: ")), 0)
+    require(done.status == 1 and lines[place].endswith(f" {line}"), done.said())
+    require(lines[place + 1].endswith(f" = {wanted}") and lines[place + 2] == "reason: none", f"{lines}")
+
+
+def reason_is_told(program: str, folder: str, way: str, script: str, line: str, reason: str) -> None:
+    """What a right system does otherwise has a reason."""
+    done = compared(program, folder, way, script)
+    lines = done.stdout.decode().splitlines()
+    place = next((place for place, line in enumerate(lines) if line.startswith("fdref: ")), 0)
+    require(done.status == 0 and lines[place].endswith(f" {line}"), done.said())
+    same(f"reason: {reason}", lines[place + 1])
 
 
 # ---- pipes that take less than they have room for
@@ -181,6 +294,16 @@ def cases(program: str, folder: str) -> Iterator[Case]:
         yield way, partial(sleep_is_told, program, folder, way, script, page)
     way = "last-writer-wakes-nobody"
     yield f"{way}, in the end", partial(sleep_is_told, program, folder, way, ENDED, SLEEPS[way][1])
+    for way, (script, answer) in WAKES.items():
+        yield way, partial(early_is_told, program, folder, way, script, answer)
+    for way, script in LARGE_SLEEPS.items():
+        yield f"{way}, of a large write", partial(large_sleep_is_told, program, folder, way, script)
+    yield "two large writes", partial(other_is_served, program, folder)
+    for way, script, line, reason in OTHERWISE:
+        yield way, partial(reason_is_told, program, folder, way, script, line, reason)
+    yield "turned pipes", partial(turned_is_compared, program, folder)
+    for row in LED_ASTRAY:
+        yield row[0], partial(name_is_told, program, folder, *row)
     for way, script in TAKE_LESS.items():
         yield way, partial(less_is_told, program, folder, way, script)
     for way in ("larger-pipe-buf", "larger-pipe-buf-unseen"):

@@ -127,6 +127,7 @@ CLOSED = f"{PIPED}4 5 p0 close 0 = ok\n"
 CHOICES += [
     (PIPED, "6 7 p0 write 1 61*65537 = 65537", "error EINVAL", COUNT),
     (CLOSED, "6 7 p0 write 1 61*65537 = error EPIPE", "error EINVAL", COUNT),
+    (f"{JOINED}2 3 p0 mkfifo f = ok\n", "4 - p0 open f r,trunc = parked ?", "error EINVAL", FLAGS),
 ]
 LENGTH = "ftruncate past the size limit is EINVAL, not EFBIG (own; page of ftruncate)"
 CHOICES += [
@@ -143,6 +144,7 @@ UNCHOSEN = [
     (APPENDED, "8 9 p0 fstat 0 = regular 2 1", "regular 1 1", f"reason: {APPEND}"),
     (APPENDED, "8 9 p0 pread 0 0 9 = x6163", "x62", "page of pread"),
     (APPENDED, "8 9 p0 fstat 0 = regular 3 1", "regular 1 1", "page of fstat"),
+    (f"{APPENDED}7 7 p0 pwrite 0 0 x63 = 1\n", "8 9 p0 fstat 0 = regular 2 1", "regular 1 1", "page of fstat"),
     (APPENDED, "8 9 p0 fstat 0 = regular 2 2", "regular 1 1", "page of fstat"),
     (APPENDED, "8 9 p0 pwrite 0 0 x63 = error EBADF", "1", "page of pwrite"),
     (APPENDED, "8 9 p0 pwrite 0 0 x6363 = 1", "2", "page of pwrite"),
@@ -240,6 +242,34 @@ NO_LIMITS = [
     (FILED, "40 41 p0 mkfifo b = error EAGAIN", "ok"),
     (FILED, "40 41 p0 unlink abcdefghijklmn = error ENAMETOOLONG", "error ENOENT"),
 ]
+# Limits that the same history contradicts: what comes before, the call, what fdref answers, and what comes after.
+FAR_SIZE = f"regular {2**33} 1"
+CONTRADICTED = [
+    (TWENTY, "40 41 p0 open a r = error EMFILE", "20", "42 43 p0 open a r = 20"),
+    (TWENTY, "40 41 p0 open a r = error EMFILE", "20", "42 43 p0 dup2 0 25 = 25"),
+    (f"{TWENTY}35 36 p0 dup2 0 25 = 25\n", "40 41 p0 open a r = error EMFILE", "20", ""),
+    (FILED, "40 41 p0 dup2 0 20 = error EBADF", "20", "42 43 p0 dup2 0 21 = 21"),
+    (ALL, "40 41 p0 open a r = 32", "error EMFILE", "42 43 p0 close 32 = ok\n44 45 p0 open a r = error EMFILE"),
+    (FILED, "40 41 p0 dup2 0 40 = 40", "error EBADF", "42 43 p0 dup2 0 39 = error EBADF"),
+    (FILED, f"40 41 p0 pwrite 0 {2**32} x61 = error EFBIG", "1", f"42 43 p0 pwrite 0 {2**32} x61 = 1"),
+    (FILED, f"40 41 p0 pwrite 0 {2**32} x61 = error EFBIG", "1", f"42 43 p0 ftruncate 0 {2**33} = ok"),
+    (FILED, f"40 41 p0 pwrite 0 {2**32 - 2} x616161 = 2", "3", f"42 43 p0 fstat 0 = {FAR_SIZE}"),
+    (FILED, f"40 41 p0 ftruncate 0 {2**32} = error EFBIG", "ok", f"42 43 p0 pwrite 0 {2**32 - 1} x61 = 1"),
+    (
+        FILED,
+        "40 41 p0 unlink abcdefghijklmno = error ENAMETOOLONG",
+        "error ENOENT",
+        "42 43 p0 mkfifo abcdefghijklmno = ok",
+    ),
+]
+# The nearest that it does not contradict, and the reason.
+CONSISTENT = [
+    (TWENTY, "40 41 p0 open a r = error EMFILE", "20", FEWER, "42 43 p0 close 3 = ok\n44 45 p0 open a r = 3"),
+    (FILED, "40 41 p0 dup2 0 21 = error EBADF", "21", FEWER, "42 43 p0 dup2 0 20 = 20"),
+    (ALL, "40 41 p0 open a r = 32", "error EMFILE", MORE, "42 43 p0 open a r = error EMFILE"),
+    (FILED, f"40 41 p0 pwrite 0 {2**32} x61 = error EFBIG", "1", SMALLER, f"42 43 p0 ftruncate 0 {2**32} = ok"),
+    (FILED, "40 41 p0 unlink abcdefghijklmno = error ENAMETOOLONG", "error ENOENT", LONG, "42 43 p0 mkfifo b = ok"),
+]
 # Writes of more bytes than a call of the profile moves, to a pipe: what no room explains.
 MANY_BYTES = [
     (HELD, "20 21 p0 write 1 61*65537 = 65536", "error EINVAL"),
@@ -247,6 +277,8 @@ MANY_BYTES = [
     (HELD, "20 21 p0 write 1 61*65537 = error EPIPE", "error EINVAL"),
     (HELD_NONBLOCK, "20 21 p0 write 1 61*65537 = 0", "error EINVAL"),
     (CLOSED, "20 21 p0 write 1 61*65537 = 65537", "error EINVAL"),
+    (PIPED, "20 21 p0 read 0 70000 = x", "error EINVAL"),
+    (FILED, "20 - p0 read 0 70000 = parked ?", "error EINVAL"),
 ]
 # Calls of no bytes: errors that are not looked for, EAGAIN of an empty pipe, and a write to a pipe, after which nothing
 # is known.
@@ -328,6 +360,12 @@ def ends_with(program: str, text: str, status: int, end: str, *options: str) -> 
     require(ran.stdout.decode().endswith(f"\n{end}\n"), ran.said())
 
 
+def has_told(program: str, text: str, lines: str) -> None:
+    """The tool tells this of a history, and ends with status 0."""
+    ran = told(program, text)
+    require(ran.status == 0 and f"\n{lines}\n" in ran.stdout.decode(), ran.said())
+
+
 def is_bare(program: str, text: str, answer: str) -> None:
     """The tool tells what fdref answers to a call, and no reason."""
     ran = told(program, text)
@@ -348,6 +386,11 @@ def reason_cases(program: str) -> Iterator[Case]:
         yield f"no choice: {call}", partial(ends_with, program, f"{before}{call}\n", 1, lines)
     for before, call, answer in [*SOME_BYTES, *NO_LIMITS, *MANY_BYTES]:
         yield f"no choice: {call}", partial(is_bare, program, f"{before}{call}\n", answer)
+    for before, call, answer, after in CONTRADICTED:
+        yield f"no limit: {call}; {after}", partial(is_bare, program, f"{before}{call}\n{after}\n", answer)
+    for before, call, answer, reason, after in CONSISTENT:
+        end = f"fdref answers {answer}\nreason: {reason}"
+        yield f"a limit: {call}; {after}", partial(has_told, program, f"{before}{call}\n{after}\n", end)
     further = f"{JOINED}2 3 p0 read 7 0 = x\n4 5 p0 close 7 = error EINVAL\n"
     yield "after a call of no bytes", partial(is_bare, program, further, "error EBADF")
     for before, calls, end in OVERLAPPING:
@@ -359,9 +402,9 @@ def reason_cases(program: str) -> Iterator[Case]:
     one = chosen("4 5 p0 open a r,trunc = 1", *CHOICES[2][2:])
     rest = f"{one}the rest is not compared, 1 call\n"
     yield "what is not compared", partial(prints, program, flags, 0, rest)
-    two = f"{PIPED}4 5 p0 fstat 0 = pipe 0 1\n6 7 p0 fstat 1 = pipe 0 1\n8 9 p0 read 0 70000 = x\n"
+    two = f"{PIPED}4 5 p0 fstat 0 = pipe 0 1\n6 7 p0 fstat 1 = pipe 0 1\n8 - p0 read 0 70000 = parked ?\n"
     wanted = chosen("4 5 p0 fstat 0 = pipe 0 1", "pipe 0 0", STAT)
-    wanted += "".join(chosen("8 9 p0 read 0 70000 = x", "error EINVAL", COUNT).splitlines(True)[1:])
+    wanted += "".join(chosen("8 - p0 read 0 70000 = parked ?", "error EINVAL", COUNT).splitlines(True)[1:])
     yield "two choices", partial(prints, program, two, 0, wanted)
     counts = "histories 2 explained 1 unexplained 0 given up 0 other choices 1\n"
     yield "a choice, counted", partial(prints, program, f"{GOOD}\n{flags}", 0, counts, "--quiet")
@@ -466,6 +509,27 @@ def finds_a_wrong_program(program: str) -> None:
             fails(path, text, 3, "the program differs from the plain model")
 
 
+def capacity_cases(program: str) -> Iterator[Case]:
+    """What is told where it is said how many bytes a pipe of the system holds."""
+    asked = ROOMY_LINES.splitlines()[1:-1]
+    larger = "".join([GOOD_LINES.splitlines(True)[0], *(f"{at} {line.strip()}\n" for at, line in enumerate(asked))])
+    yield "a pipe of 1,200 bytes", partial(prints, program, ROOMY, 0, larger, "--pipe-capacity", "1200")
+    known = ("--pipe-capacity", "1199")
+    small = "  70 80 p0 write 1 61*600 = 600\nfdref answers parked 599\npage of write: a pipe or FIFO"
+    yield "a pipe of 1,199 bytes", partial(ends_with, program, ROOMY, 1, small, *known)
+    least = ROOMY.replace("= 600\n70", "= 600\n60 65 p0 read 0 1 = x61\n70")
+    yield "a pipe that has room then", partial(ends_with, program, least, 0, "4 p0 write 1 61*600 = 600", *known)
+    yield "a pipe of 511 bytes", partial(fails, program, ROOMY, 2, "from 512 to 65536", "--pipe-capacity", "511")
+    page = f"{PIPED}4 5 p0 fork = 1\n6 7 p1 attach = ok\n8 9 p0 setfl 1 -,nonblock = ok\n"
+    page += "10 11 p0 write 1 61*9000 = 4096\n12 20 p0 write 1 x61 = error EAGAIN\n"
+    page += "15 18 p1 write 1 x61 = error EAGAIN\n"
+    hint = "perhaps: room of a pipe (own; page of write); "
+    hint += "--pipe-capacity tells how many bytes a pipe of the system holds"
+    yield "a pipe of 4,096 bytes", partial(ends_with, program, page, 1, hint)
+    room, end = ("--pipe-capacity", "4096"), "p0 write 1 x61 = error EAGAIN"
+    yield "a pipe of 4,096 bytes, as is told", partial(ends_with, program, page, 0, f"7 {end}", *room)
+
+
 def cases(program: str) -> Iterator[Case]:
     """What is printed, and each status."""
     totals = "histories 4 explained 3 unexplained 1 given up 0\n"
@@ -479,20 +543,8 @@ def cases(program: str) -> Iterator[Case]:
     both = f"history 1: {ROOMY_LINES}history 2: {GOOD_LINES}"
     both += "histories 2 explained 1 unexplained 0 given up 0 room of a pipe 1\n"
     yield "a larger pipe, counted", partial(prints, program, f"{ROOMY}\n{GOOD}", 0, both)
-    asked = ROOMY_LINES.splitlines()[1:-1]
-    larger = "".join([GOOD_LINES.splitlines(True)[0], *(f"{at} {line.strip()}\n" for at, line in enumerate(asked))])
-    yield "a pipe of 1,200 bytes", partial(prints, program, ROOMY, 0, larger, "--pipe-capacity", "1200")
-    yield "a pipe of 1,199 bytes", partial(prints, program, ROOMY, 0, ROOMY_LINES, "--pipe-capacity", "1199")
-    yield "a pipe of 511 bytes", partial(fails, program, ROOMY, 2, "from 512 to 65536", "--pipe-capacity", "511")
+    yield from capacity_cases(program)
     wrong = ROOMY.replace("70 80 p0 write 1 61*600 = 600", "70 80 p0 read 0 9 = x")
-    page = f"{PIPED}4 5 p0 fork = 1\n6 7 p1 attach = ok\n8 9 p0 setfl 1 -,nonblock = ok\n"
-    page += "10 11 p0 write 1 61*9000 = 4096\n12 20 p0 write 1 x61 = error EAGAIN\n"
-    page += "15 18 p1 write 1 x61 = error EAGAIN\n"
-    hint = "perhaps: room of a pipe (own; page of write); "
-    hint += "--pipe-capacity tells how many bytes a pipe of the system holds"
-    yield "a pipe of 4,096 bytes", partial(ends_with, program, page, 1, hint)
-    room, end = ("--pipe-capacity", "4096"), "p0 write 1 x61 = error EAGAIN"
-    yield "a pipe of 4,096 bytes, as is told", partial(ends_with, program, page, 0, f"7 {end}", *room)
     yield "a larger pipe, in vain", partial(fails, program, wrong, 1, "no order explains it")
     yield "quiet", partial(prints, program, four, 1, f"history 2: {BAD_LINES}{totals}", "--quiet")
     yield from reason_cases(program)

@@ -136,9 +136,15 @@ def choice_is_told(tools: Tools, before: str, setup: str, calls: Sequence[str], 
 
 
 def setup_is_told(tools: Tools) -> None:
-    """What the system answers otherwise before the race is told first."""
+    """What the system answers otherwise before the race is told first, and is status 1 without a reason."""
     done = tools.race(*made_up(tools, "setup", MADE_UP[:1], SETUP.replace("= 0 1", "= 3 4")))
-    first = b"before the race: p0 pipe = 3 4, and fdref says 0 1\n"
+    first = b"before the race: p0 pipe = 3 4, and fdref says 0 1\n              no reason is known\n"
+    require(done.status == 1 and done.stdout.startswith(first), done.said())
+    words = made_up(tools, "setup", MADE_UP[:1], f"{SETUP}8 9 p0 fstat 0 = pipe 0 1\n")
+    Path(words[0]).write_text(SCRIPT.replace("race\n", "p0 fstat 0\nrace\n"))
+    done = tools.race(*words)
+    first = b"before the race: p0 fstat 0 = pipe 0 1, and fdref says pipe 0 0\n"
+    first += b"              size and links of a pipe in fstat (own) (page of fstat)\n"
     require(done.status == 0 and done.stdout.startswith(first), done.said())
 
 
@@ -187,6 +193,20 @@ def unjudged_are_counted() -> None:
     none_judged = table.untimely(lambda history: race_table.Judged(None), FOREVER)
     same(((0, 1, 3), []), ((all_judged.unjudged, some_judged.unjudged, none_judged.unjudged), none_judged.odd))
     same("the times of 1 round were not judged", table.last_lines([], some_judged)[0])
+
+
+def other_times_are_judged() -> None:
+    """An answer that is not allowed has no reason where it has none at some times of the calls."""
+    script = read_race(SCRIPT.encode())
+    table = race_table.Table(script, {})
+    rest = "20 22 p1 setfl 0 -,nonblock = ok\n24 26 p1 read 0 1 = error EAGAIN\n28 30 p1 write 1 x61 = 1\n"
+    table.add(read_histories("\n".join(f"{SETUP}10 {end} p0 read 0 1 = x62\n{rest}" for end in (15, 23, 27, 31))))
+    known = race.Choice("a reason", "a page")
+    reasons = [
+        table.odd(lambda history: None if history[len(script.setup)].end == 31 else known, until)[0].reason
+        for until in (0, FOREVER)
+    ]
+    same([known, None], reasons)
 
 
 # Histories that are not those of the race, and what is told of each.
@@ -245,6 +265,7 @@ def tool_cases(tools: Tools) -> Iterator[Case]:
     yield "before the race", partial(setup_is_told, tools)
     yield "times", partial(times_are_judged, tools)
     yield "times and room", partial(room_is_a_reason_of_times, tools)
+    yield "other times of an answer that is not allowed", other_times_are_judged
     yield "times that are not judged", unjudged_are_counted
     for setup, calls, told in OTHER_RACES:
         yield f"another race: {told}", partial(other_race_is_told, tools, setup, calls, told)

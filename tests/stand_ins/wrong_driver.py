@@ -27,6 +27,12 @@ SLEEPS: dict[str, tuple[type, Callable[..., bool]]] = {
     "last-reader-wakes-nobody": (WaitingWrite, lambda call, world: world.has_end(call.pipe, "r") and call.pipe.room()),
     "open-wakes-nobody": (WaitingOpen, lambda call, world: False),
 }
+# Systems that end a call that has to wait on: whether a call of a kind goes on there.
+WAKES: dict[str, tuple[type, Callable[..., bool]]] = {
+    "wakes-readers-early": (WaitingRead, lambda call, world: True),
+    "wakes-openers-early": (WaitingOpen, lambda call, world: True),
+    "wakes-writers-early": (WaitingWrite, lambda call, world: True),
+}
 
 
 def without(script: bytes, word: bytes) -> bytes:
@@ -90,6 +96,74 @@ def has_larger_pipe_buf(unseen_from: int) -> None:
     settled_driver.is_large = is_large
 
 
+def gives_no_part(call: WaitingWrite, world: plain_model.World) -> tuple[plain_model.Reply, bool]:
+    """A write that ends without a reader is EPIPE, whatever it has moved."""
+    plain_model.require(world.has_end(call.pipe, "r"), "EPIPE")
+    call.put(world)
+    has_ended = call.moved == len(call.data)
+    return call.moved if has_ended else f"part {call.moved}", has_ended
+
+
+def is_ended(call: WaitingRead, world: plain_model.World) -> bool:
+    """Whether a read that waits has data, no writer, or nonblock, which was set meanwhile."""
+    ends = (at for process in world.processes.values() for at in process.table.values() if at.pipe is call.pipe)
+    is_set = any(at.mode == "r" and at.nonblock for at in ends)
+    return bool(call.pipe.data) or not world.has_end(call.pipe, "w") or is_set
+
+
+def given_or_ended(call: WaitingRead, world: plain_model.World) -> tuple[plain_model.Reply, bool]:
+    """What a read that waited gives, and EAGAIN where there is nothing yet."""
+    plain_model.require(call.pipe.data or not world.has_end(call.pipe, "w"), "EAGAIN")
+    return world.get(call.pipe, call.count), True
+
+
+def turned_pipe(world: plain_model.World, process: plain_model.Process) -> plain_model.Reply:
+    """A pipe whose writing end has the lower number."""
+    reading, writing = str(PIPE(world, process)).split(" ")
+    table = process.table
+    table[int(reading)], table[int(writing)] = table[int(writing)], table[int(reading)]
+    return f"{writing} {reading}"
+
+
+PIPE = plain_model.World.pipe
+
+def take_last_first(run: settled_driver.Settled, act: plain_model.Act) -> None:
+    """Lets an act take place, and all that go on because of it, those of the last process first."""
+    plain_model.Run.take(run, act)
+    while any(run.goes_on(process) for process in reversed([*run.world.processes.values()])):
+        continue
+
+
+def make_file(world: plain_model.World, _: plain_model.Process, name: bytes) -> plain_model.Reply:
+    """A mkfifo that makes a regular file."""
+    world.names[name] = plain_model.Regular()
+    return "ok"
+
+
+def leave_name(_: plain_model.World, *__: object) -> plain_model.Reply:
+    """An unlink that does nothing."""
+    return "ok"
+
+
+def leave_old_name(world: plain_model.World, _: plain_model.Process, old: bytes, new: bytes) -> plain_model.Reply:
+    """A rename that leaves the old name."""
+    world.names[new] = world.names[old]
+    return "ok"
+
+
+# Systems that are right in what the standard leaves open, and systems that are wrong where a name leads: the functions
+# of the model that they have otherwise.
+OTHERWISE: dict[str, list[tuple[type, str, Callable[..., object]]]] = {
+    "mkfifo-makes-a-file": [(plain_model.World, "mkfifo", make_file)],
+    "unlink-leaves-the-name": [(plain_model.World, "unlink", leave_name)],
+    "rename-leaves-the-name": [(plain_model.World, "rename", leave_old_name)],
+    "no-part-without-a-reader": [(WaitingWrite, "go_on", gives_no_part)],
+    "serves-the-last-first": [(settled_driver.Settled, "take", take_last_first)],
+    "turns-pipes": [(plain_model.World, "pipe", turned_pipe)],
+    "nonblock-ends-a-read": [(WaitingRead, "is_ready", is_ended), (WaitingRead, "go_on", given_or_ended)],
+}
+
+
 def printed(way: str, script: bytes, limits: plain_model.Limits = plain_model.DEFAULTS) -> bytes:
     """What a driver prints for a script that is wrong in a way, or not."""
     lines = settled_driver.lines_of(LEFT_OUT.get(way, bytes)(script), limits)
@@ -99,12 +173,16 @@ def printed(way: str, script: bytes, limits: plain_model.Limits = plain_model.DE
 def main(words: list[str]) -> int:
     """Prints what is asked for: the exit status."""
     if words == ["--list"]:
-        print("\n".join([*SLEEPS, *LEFT_OUT, *PRINTED, *TAKE_LESS, *UNSEEN_FROM]))
+        print("\n".join([*SLEEPS, *WAKES, *LEFT_OUT, *PRINTED, *TAKE_LESS, *UNSEEN_FROM, *OTHERWISE]))
         return 0
     (way,) = words
-    if way in SLEEPS:
-        kind, is_ready = SLEEPS[way]
+    if way in {**SLEEPS, **WAKES}:
+        kind, is_ready = {**SLEEPS, **WAKES}[way]
         setattr(kind, "is_ready", is_ready)
+    if way == "wakes-writers-early":
+        setattr(WaitingWrite, "go_on", lambda call, world: (len(call.data), True))
+    for kind, name, function in OTHERWISE.get(way, []):
+        setattr(kind, name, function)
     limits = plain_model.DEFAULTS
     if way in UNSEEN_FROM:
         has_larger_pipe_buf(UNSEEN_FROM[way])
