@@ -24,6 +24,9 @@ import fdref
 
 Kind = TypeVar("Kind", bound=Exception)
 
+# How many processes exit, one after another.
+EXITS = 20
+
 
 def joined(server: Server) -> fdref.Process:
     """A process of the client in Python, as soon as the server listens."""
@@ -148,10 +151,25 @@ def faults(program: str) -> None:
         same("RunFull", raises(fdref.Refused, fdref.join, server.path).reason)
         server.process.kill()
         server.process.wait()
-        require(isinstance(raised_by(process.close, 7), ConnectionError), "no ConnectionError")
+        # it has not the number of an answer about a pipe
+        same(errno.ECONNRESET, raises(ConnectionResetError, process.close, 7).errno)
         for path in (server.path, "/no/such/socket"):
             same(path, getattr(raised_by(fdref.join, path), "filename", None))
         raises(ConnectionError, process.close, 7)
+
+
+def exits(program: str) -> None:
+    """An exit is recorded when it returns: the next call of another process finds no reader."""
+    with Server(program, 1 + EXITS) as server, joined(server) as process:
+        for _ in range(EXITS):
+            reading, writing = process.pipe()
+            other = fdref.attach(server.path, process.fork())
+            process.close(reading)
+            other.exit()
+            same(errno.EPIPE, raises(fdref.CallError, process.write, writing, b"x").errno)
+            process.close(writing)
+        process.exit()
+        server.ended(report(1 + EXITS, 3 + 7 * EXITS))
 
 
 class BrokenOff(Exception):
@@ -453,6 +471,7 @@ def cases(program: str) -> Iterator[Case]:
     """What is asked of the client in Python."""
     yield "each call of the client", partial(calls, program)
     yield "what the client raises", partial(faults, program)
+    yield "an exit of the client", partial(exits, program)
     yield "a call of the client that is broken off", partial(broken_off, program)
     yield "a server without a place", partial(without_a_place, program)
     yield "a queue without a place", with_a_full_queue

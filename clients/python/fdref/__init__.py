@@ -63,6 +63,7 @@ docs/FORMATS.md has the bytes of requests, answers and traces, and docs/PROFILE.
 
 from __future__ import annotations
 
+import contextlib
 import errno
 import os
 import socket
@@ -187,7 +188,7 @@ class Process:
         try:
             number = self._begin(opening, within)
         except BaseException:
-            self.exit()
+            self._close()
             raise
         self.pid: int = number if pid is None else pid
         """The number of the process."""
@@ -216,7 +217,7 @@ class Process:
         except NoAnswer:
             raise NoPlace(self._path) from None
         except ConnectionError as fault:
-            if not isinstance(fault, ConnectionResetError | BrokenPipeError) and fault.args != (CLOSED,):
+            if not isinstance(fault, ConnectionResetError) and fault.args != (CLOSED,):
                 raise
             why = "the server ended before it had a place for this process"
             raise ConnectionResetError(errno.ECONNRESET, why, self._path) from None
@@ -249,7 +250,17 @@ class Process:
         self.exit()
 
     def exit(self) -> None:
-        """Ends the process, as `os._exit` does: it closes the connection, and the server closes its descriptors."""
+        """Ends the process, as `os._exit` does: the server closes its descriptors. Its exit is recorded when this returns,
+        unless the connection was lost or a limit passed."""
+        with contextlib.suppress(OSError):
+            self._socket.shutdown(socket.SHUT_WR)
+            # the server closes the connection once it has recorded the exit
+            while self._socket.recv(ANSWER_MOST):
+                pass
+        self._close()
+
+    def _close(self) -> None:
+        """Closes the connection, by which the process ends, perhaps later."""
         self._answers.close()
         self._socket.close()
 
@@ -344,7 +355,7 @@ class Process:
         except (CallError, Refused):
             raise
         except BaseException:
-            self.exit()
+            self._close()
             raise
 
     def _exchange(self, request: bytes) -> Any:
@@ -354,6 +365,9 @@ class Process:
             self._socket.sendall(_number(len(request), 4) + request)
         except TimeoutError:
             raise self._no_answer() from None
+        except BrokenPipeError:
+            # its number is that of an answer about a pipe
+            raise ConnectionResetError(errno.ECONNRESET, CLOSED, self._path) from None
         while True:
             answer = self._receive()
             try:
