@@ -20,7 +20,7 @@ use Rattle.session_core.specs.Proved.Turns.{IsTalking, HasReceipts, TakesUp, Tur
 use Rattle.session_core.specs.Talk.{Converses}
 use Rattle.session_core.specs.Refusals.{AreSaid, RefusalSaid}
 use Rattle.session_core.specs.Proved.Saying.{IsReadingEnd, OverSaid, TurnSaid}
-use Rattle.session_core.specs.Proved.Desk.{HasLeft, IsAtRest, IsEnding, IsLostIn, IsNamedPair, IsOverAfter, IsReady, IsRingOf, IsShut, IsWaitingIn, LeftBy, SentIfReady, StandsThere, TurnStands, TurnsTo}
+use Rattle.session_core.specs.Proved.Desk.{HasLeft, IsAtRest, IsEnding, IsLostIn, IsNamedPair, IsOverAfter, IsReady, IsRingOf, IsShut, IsWaitingIn, LeftBy, SentIfReady, StandsThere, TurnStands}
 use Rattle.session_core.specs.Answering.{TakingEnd}
 use Rattle.session_core.proofs.CallLemmas.{converses, has_receipts}
 use Rattle.session_core.proofs.OutputLemmas.{holds_fresh}
@@ -77,16 +77,18 @@ waited says base taken seat old new found w waits refusals said =
     (turned says base w.handled (request.Call w.call) new found (waits base w.handled w.call w.waits) (refusals base w.handled w.call w.waits first) said)
 
 -- all answers are written
-pub sent_all : (says : Says) (taken : List Request) (old new : OutputState) (at : Stage) → SendsAll old new → TurnsTo says taken old at taken new (standing.Ready at)
-sent_all says taken old new at sends base ready = record {
+pub sent_all : (says : Says) (base : Option (List ℕ)) (taken : List Request) (old new : OutputState) (at : Stage)
+    → SendsAll old new → IsReady says base taken old at → IsReady says base taken new at
+sent_all says base taken old new at sends ready = record {
   holds = sends.flushes.holds base ready.holds;
   talking = subst (λ (l : List Told). IsTalking taken l at) (sym sends.flushes.answers) ready.talking;
   said = kept_said (RefusalSaid says taken) old.answers new.answers sends.flushes.answers ready.said;
 }
 
-pub not_sent : (says : Says) (taken : List Request) (old new : OutputState) (at : Stage) → FailsToSend old new
-    → TurnsTo says taken old at taken new (standing.Over (over.Unwritten at))
-not_sent says taken old new at fails base ready = record {
+-- the writer failed
+pub not_sent : (says : Says) (base : Option (List ℕ)) (taken : List Request) (old new : OutputState) (at : Stage)
+    → FailsToSend old new → IsReady says base taken old at → IsOverAfter says base taken new (over.Unwritten at)
+not_sent says base taken old new at fails ready = record {
   is =
       inr (
         fails.breaks base ready.holds,

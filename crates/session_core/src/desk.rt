@@ -6,7 +6,7 @@ ghost use Rattle.call_types.specs.declared.act.Record.{Record};
 ghost use Rattle.call_types.specs.declared.request.Request.{Request};
 ghost use Rattle.run_history.specs.Fronts.{Grows, Since};
 ghost use Rattle.session_core.specs.Proved.Losing.{IsToldOf, is_opening, ready_process};
-ghost use Rattle.session_core.specs.Proved.Desk.{EndsOn, LeftBy, SentIfReady, StandsBy, StandsOn, TurnsTo, attended_by};
+ghost use Rattle.session_core.specs.Proved.Desk.{EndsOn, LeftBy, SentIfReady, StandsBy, StandsOn, attended_by};
 ghost use Rattle.session_core.specs.Proved.Saying.{IsReadingEnd, OverSaid};
 ghost use Rattle.session_core.specs.declared.stage.Standing.TheVariants as standings;
 
@@ -101,7 +101,6 @@ fn stand<Rt: Wait, W: Write + Connection, G: Gate, L: Run, K: KernelOf<L>>(
     turn: TurnOf<L>,
 ) -> StandingOf<L>
     ensures stands { Since front.new (λ h. StandsBy (K.says h) W.was_shut output.old turn output.new result) }
-    ensures sent { SentIfReady output.old turn → SentIfReady output.new result }
     ensures grows { Grows front.old front.new }
 {
     match turn {
@@ -113,7 +112,7 @@ fn stand<Rt: Wait, W: Write + Connection, G: Gate, L: Run, K: KernelOf<L>>(
 }
 
 /// Takes up what the ring holds, until it is empty, a call waits or the session is over.
-fn take_ring<Rt: Wait, W: Write, G: Gate, L: Run, K: KernelOf<L>>(
+fn take_ring<Rt: Wait, W: Write + Connection, G: Gate, L: Run, K: KernelOf<L>>(
     rt: &Rt,
     note: &Note,
     kernel: &K,
@@ -121,9 +120,9 @@ fn take_ring<Rt: Wait, W: Write, G: Gate, L: Run, K: KernelOf<L>>(
     consumer: &mut Consumer<Request>,
     output: &mut Output<W, G>,
     stage: StageOf<L>,
-) -> TurnOf<L>
+) -> StandingOf<L>
     ensures ring { SameConsumer consumer.old consumer.new }
-    ensures stands { Since front.new (λ h. TurnsTo (K.says h) (received consumer.old) output.old stage (received consumer.new) output.new result) }
+    ensures stands { StandsOn front.new K.says W.was_shut (received consumer.old) output.old (standings.Ready stage) (received consumer.new) output.new result }
     ensures grows { Grows front.old front.new }
 {
     let mut stage = stage;
@@ -134,7 +133,7 @@ fn take_ring<Rt: Wait, W: Write, G: Gate, L: Run, K: KernelOf<L>>(
         };
         match take_next(rt, note, output, kernel, front, stage, request) {
             Standing::Ready(after) => stage = after,
-            other => return other,
+            turn => return stand(rt, output, kernel, front, turn),
         }
     }
     unreachable!()
@@ -155,25 +154,8 @@ pub(crate) fn take_ready<Rt: Wait, W: Write + Connection, G: Gate, L: Run, K: Ke
     ensures grows { Grows front.old front.new }
 {
     match standing {
-        Standing::Ready(stage) => {
-            let turn = take_ring(rt, note, kernel, front, consumer, output, stage);
-            stand(rt, output, kernel, front, turn)
-        }
+        Standing::Ready(stage) => take_ring(rt, note, kernel, front, consumer, output, stage),
         other => other,
-    }
-}
-
-/// Writes the answers of a session that goes on.
-fn write_out<W: Write, G: Gate, L: Run, K: KernelOf<L>>(
-    output: &mut Output<W, G>,
-    stage: StageOf<L>,
-) -> TurnOf<L>
-    ensures stands { (h : List Record) (taken : List Request) → TurnsTo (K.says h) taken output.old stage taken output.new result }
-    ensures sent { SentIfReady output.new result }
-{
-    match output.flush() {
-        Ok(()) => Standing::Ready(stage),
-        Err(_) => Standing::Over(Over::Unwritten(stage)),
     }
 }
 
@@ -190,10 +172,16 @@ pub(crate) fn send_ready<Rt: Wait, W: Write + Connection, G: Gate, L: Run, K: Ke
     ensures grows { Grows front.old front.new }
 {
     match standing {
-        Standing::Ready(stage) => {
-            let turn = write_out::<W, G, L, K>(output, stage);
-            stand(rt, output, kernel, front, turn)
-        }
+        Standing::Ready(stage) => match output.flush() {
+            Ok(()) => Standing::Ready(stage),
+            Err(_) => Standing::Over(close_and_shut(
+                rt,
+                output,
+                kernel,
+                front,
+                Over::Unwritten(stage),
+            )),
+        },
         other => other,
     }
 }

@@ -101,10 +101,6 @@ pub record IsOverAfter (says : Says) (base : Option (List ℕ)) (taken : List Re
 abbrev pub TurnStands : Says → Option (List ℕ) → List Request → OutputState → Turn → Type 0
 TurnStands says base taken o found = StandsIn (IsOverAfter says base taken o) says base taken o found
 
--- where a request could be taken up after the first of these requests, this is where the session stands right after the second
-abbrev pub TurnsTo : Says → List Request → OutputState → Stage → List Request → OutputState → Turn → Type 0
-TurnsTo says taken old at more new found = (base : Option (List ℕ)) → IsReady says base taken old at → TurnStands says base more new found
-
 -- ---- between two turns
 
 -- what holds of a connection that was shut, by what its writer held

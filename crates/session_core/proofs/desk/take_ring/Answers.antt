@@ -22,6 +22,8 @@ loop-preserved g c = record {
 
 pub returns-in_default-clause-stands : goal.returns-in_default-clause-stands
 returns-in_default-clause-stands g c h p base is =
-    subst (λ (l : List Request). TurnStands (g.K.Kernel.says h) base l c.take_next.new.output c.take_next.result) (sym c.in-Ok.ensures.ok.0)
+    let q = c.stand.ensures.grows h p in
+    (c.stand.ensures.stands h p) base (received c.pop.new.self)
+    (subst (λ (l : List Request). TurnStands (g.K.Kernel.says h) base l c.take_next.new.output c.take_next.result) (sym c.in-Ok.ensures.ok.0)
     (laws.one_taken (g.K.Kernel.says h) base (received c.loop.consumer) c.in-Ok.request c.loop.stage c.loop.output c.take_next.new.output c.take_next.result
-    (c.loop.invariant.stands h (c.take_next.ensures.grows h p) base is) c.take_next.ensures.takes (c.take_next.ensures.refusals h p) (c.take_next.ensures.said h p))
+    (c.loop.invariant.stands h (c.take_next.ensures.grows h q) base is) c.take_next.ensures.takes (c.take_next.ensures.refusals h q) (c.take_next.ensures.said h q)))
