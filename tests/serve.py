@@ -42,7 +42,7 @@ from collections.abc import Callable, Iterator, Sequence
 from functools import partial
 
 from parts import crowds, python_client
-from support.causes import SAID, names_cause
+from support.causes import SAID, names_cause, unaccepted
 from support.counting import Case, Count, Failure, require, same
 from support.frames import JOIN, attach_frame, call_frame, framed, recorded, u32
 from support.options import ONLY, PROGRAM, SEED, asked, count_option
@@ -728,7 +728,7 @@ def few_descriptors(program: str, more: int, served: int) -> None:
         clients[0].gets(f"{served} 0 1")
         for client in clients:
             client.vanish()
-        server.ended(report(served, 2 * served + 2), 4, b"cannot listen\n")
+        server.ended(report(served, 2 * served + 2), 4, unaccepted(server.path))
 
 
 def output_is_full(program: str) -> None:

@@ -48,6 +48,7 @@ from typing import NamedTuple
 
 from parts import run_shortages
 from support.auditing import Audit, legal
+from support.causes import without_cause
 from support.counting import Count, Failure, require, same
 from support.options import PROGRAM, asked, count_option, trial_option
 from support.places import RUN_TRIAL, SCRATCH
@@ -163,7 +164,7 @@ def served(program: str, refuser: Refuser, first: int, last: int) -> Run:
         clients = converse(server)
         ran = outcome_of(server.process)
         trace = Path(server.trace).read_bytes() if os.path.exists(server.trace) else None
-    return Run(ran, trace, clients)
+    return Run(ran._replace(stderr=without_cause(ran.stderr)), trace, clients)
 
 
 def is_right(run: Run) -> None:

@@ -14,6 +14,7 @@ from typing import NamedTuple
 from parts.written_traces import SHORT
 from support import plain_model
 from support.auditing import audited
+from support.causes import unaccepted
 from support.counting import Case, Failure, require, same
 from support.frames import HEADER_LENGTH, OLD_HEADER_LENGTH, header_bytes, trace_of
 from support.places import SCRATCH
@@ -138,7 +139,7 @@ def two_faults(program: str) -> None:
         client.ask("pipe")
         client.gets("1 0 1")
         client.vanish()
-        server.ended(report(1, 4, traced=0), 4, b"cannot listen\n")
+        server.ended(report(1, 4, traced=0), 4, unaccepted(server.path))
 
 
 # ---- disks that fill up

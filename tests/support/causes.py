@@ -16,6 +16,16 @@ def names_cause(text: bytes, wanted: bytes, path: str, cause: bytes = SAID) -> N
     require(re.fullmatch(want, text), f"standard error is {text!r}, wanted {wanted!r} and a line for {path}")
 
 
+def unaccepted(path: str) -> bytes:
+    """Standard error of a server that has no descriptor left for a further connection to a path."""
+    return b"cannot listen\n%b: no further connection: Too many open files (os error 24)\n" % os.fsencode(path)
+
+
+def without_cause(text: bytes) -> bytes:
+    """Standard error of a server without the line that says why there was no further connection, if it has one."""
+    return re.sub(rb"(?<=^cannot listen\n)[^\n]*: no further connection: [^\n]*\n", b"", text)
+
+
 def is_caused(wanted: Ran, path: str, given: Ran) -> None:
     """A run ended as is wanted, and a line more says what the system said of this path."""
     names_cause(given.stderr, wanted.stderr, path)

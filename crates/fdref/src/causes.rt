@@ -1,4 +1,4 @@
-//! What the system said where a path could not be opened, made or listened on.
+//! What the system said where a path could not be opened, made or listened on, or gave no further connection.
 
 use std::alloc::Global;
 use std::cell::RefCell;
@@ -9,6 +9,8 @@ use std::{fmt, io};
 enum Why {
     /// The system said so.
     System(io::Error),
+    /// It gave no further connection, and the system said so.
+    Unaccepted(io::Error),
     /// Another process has locked the file, as a server does that writes its trace there.
     Locked,
 }
@@ -42,6 +44,11 @@ impl Causes {
         self.put(path, Why::System(error));
     }
 
+    /// Notes what the system said where a path gave no further connection.
+    pub fn note_unaccepted(&self, path: &str, error: io::Error) {
+        self.put(path, Why::Unaccepted(error));
+    }
+
     /// Notes that another process has locked the file at a path.
     pub fn note_locked(&self, path: &str) {
         self.put(path, Why::Locked);
@@ -67,6 +74,12 @@ impl fmt::Display for Causes {
                     why: Why::System(error),
                 },
             ) => write!(f, "{path}: {error}\n"),
+            Some(
+                Cause {
+                    path,
+                    why: Why::Unaccepted(error),
+                },
+            ) => write!(f, "{path}: no further connection: {error}\n"),
             Some(
                 Cause {
                     path,

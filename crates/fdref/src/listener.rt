@@ -8,12 +8,13 @@ use std::io;
 use std::net::Net;
 use std::os::unix::net::{UnixListener, UnixStream};
 
-/// A socket that listens, how many connections it gave, and how many times it gave none.
+/// A socket that listens, how many connections it gave, how many times it gave none, and what the system said last when it gave none.
 #[derive(Drop)]
 pub struct Listener {
     socket: UnixListener,
     accepted: u64,
     failures: u64,
+    said: Option<io::Error>,
 }
 
 impl Listener {
@@ -44,8 +45,9 @@ impl Source for Listener {
                 self.accepted += 1;
                 Ok(connection)
             }
-            Err(_) => {
+            Err(error) => {
                 self.failures += 1;
+                self.said = Some(error);
                 Err(AcceptFailed)
             }
         }
@@ -83,11 +85,18 @@ impl<'a, R: Files + Net> Listens for Sockets<'a, R> {
                 socket,
                 accepted: 0,
                 failures: 0,
+                said: None,
             }),
             Err(error) => {
                 self.causes.note(path, error);
                 None
             }
+        }
+    }
+
+    fn note(&self, path: &str, source: &Listener) {
+        if let Some(error) = source.said {
+            self.causes.note_unaccepted(path, error);
         }
     }
 }

@@ -47,6 +47,9 @@ pub trait Listens {
         ensures none { IfNone result (is_unheard self.now path.now) }
         ensures failures { IfSome result (λ source. Self.Source.Source.failures source ≡ 0) }
         ensures accepted { IfSome result (λ source. Self.Source.Source.accepted source ≡ 0) };
+
+    /// Notes why a source of connections to a path gave no further one, if it did not.
+    fn note(&self, path: &str, source: &Self::Source);
 }
 
 /// What opens files, and makes them.
@@ -178,6 +181,7 @@ fn serve_at<
                 sink,
                 writer,
             );
+            listens.note(path, &source);
             served.end
         }
         None => JobEnd::CannotListen,
