@@ -12,6 +12,7 @@ import itertools
 import signal
 from collections.abc import Sequence
 
+from support.call_logs import is_wait
 from support.plain_model import TRANSFER_MAX
 from support.runs import Line
 
@@ -72,7 +73,7 @@ class Handlers:
                 self.noted.setdefault(one.number, []).append(one)
         ends = itertools.accumulate(map(length_of, lines), initial=0)
         self.places = {id(line): place for place, line in zip(ends, lines, strict=False)}
-        self.rests = rests_of(lines)
+        self.rests = rests_of([line for line in lines if not is_wait(line)])
 
     def while_in(self, line: Line) -> dict[int, set[str]]:
         """How each signal may have been handled while a call was made."""

@@ -10,7 +10,7 @@ from typing import NamedTuple
 
 from support import plain_model
 from support.auditing import Frames, Judge, act_of
-from support.call_logs import Log, Way, call_of, log_of, read_lines, word_of
+from support.call_logs import Log, Way, call_of, is_wait, log_of, read_lines, word_of
 from support.counting import require
 from support.plain_model import PIPE_BUF
 from support.runs import Line, line_of
@@ -442,8 +442,8 @@ def check_places(lines: list[Line], trace: list[Line]) -> None:
 
 class Compared:
     """Two logs, which are compared: what is found, and the first finding that has no reason and follows from none. The
-    run on the system may have been killed, and the one with fdref may have ended by itself. What was noted natively
-    tells which signals had handlers. The room of a pipe of the system may be known."""
+    run on the system may have been killed, and the one with fdref may have ended by itself. Its log also tells of waits.
+    What was noted natively tells which signals had handlers. The room of a pipe of the system may be known."""
 
     def __init__(
         self,
@@ -455,7 +455,8 @@ class Compared:
         noted: bytes = b"",
         room: int | None = None,
     ) -> None:
-        self.lines, self.system_lines = read_lines(fdref, "with fdref"), read_lines(system, "on the system")
+        self.lines, self.noted_lines = read_lines(fdref, "with fdref"), read_lines(system, "on the system")
+        self.system_lines = [line for line in self.noted_lines if not is_wait(line)]
         on_system, with_fdref = log_of(self.system_lines), log_of(self.lines)
         self.processes = len(on_system.calls)
         # a program that is started has other descriptors, and comes in no order of its own: it is not compared
@@ -466,7 +467,7 @@ class Compared:
         self.limits = frames.header.limits if frames.header else plain_model.DEFAULTS
         check_places(self.lines, self.records)
         self.room = room
-        self.handlers = Handlers(past_of(noted), self.system_lines)
+        self.handlers = Handlers(past_of(noted), self.noted_lines)
         self.turns = Turns(self.system_lines, self.handlers, self.records, self.limits)
         story = self.story()
         add_waits(self.system, self.fdref, story, is_killed, has_ended)

@@ -2,7 +2,8 @@
 
 Each process makes its calls in its own order, and a fork comes before the first call of its child. The log of the run
 on the system tells more: a call has a line once it came back, and tells how long the log was when it began. So a call
-whose line stood there by then came first. Where that is not told, the last line of its process was there.
+whose line stood there by then came first. Where that is not told, the last line of its process was there. A wait that
+told that a child had ended has a line, too: the child's exit came before that.
 
 What the shim asks aside is no call of the program, and is in the trace of fdref alone: what is before the first call,
 which holds the numbers of real files, and what may come later, of which the answers are left open. So are those of
@@ -16,7 +17,7 @@ from typing import NamedTuple
 
 from support import plain_model
 from support.auditing import act_of
-from support.call_logs import Log, call_of, word_of
+from support.call_logs import Log, call_of, is_wait, word_of
 from support.histories import UNKNOWN, Noted
 from support.ordering import ROOMY
 from support.plain_model import TRANSFER_MAX, Limits
@@ -121,9 +122,12 @@ class Builder:
     def __init__(self, compared: Compared, is_roomy: bool = False) -> None:
         self.compared = compared
         self.lines = compared.system_lines
-        self.places = {id(line): place for place, line in enumerate(self.lines)}
-        self.ends = [*itertools.accumulate(len(line_text(line)) + 1 for line in self.lines)]
-        self.last = 2 * len(self.lines) + 4
+        noted = compared.noted_lines
+        self.places = {id(line): place for place, line in enumerate(noted)}
+        self.ends = [*itertools.accumulate(len(line_text(line)) + 1 for line in noted)]
+        self.last = 2 * len(noted) + 4
+        # when it was told of a child that it had ended: the first time
+        self.gone = {int(line.outcome): self.after(line) - 1 for line in reversed(noted) if is_wait(line)}
         self.is_exact = True
         reasons = [it for it in compared.findings if it.reason and it.parting.is_same_call()]
         known = [OF_TIME.name, ROOM] if is_roomy else [OF_TIME.name]
@@ -175,7 +179,8 @@ class Builder:
         start = 2 * min(bisect.bisect_right(self.ends, int(told)), self.places[id(line)]) + 1
         if start >= known:
             return start
-        before = (it for it in reversed(self.lines[: self.places[id(line)]]) if same_thread(it, line))
+        earlier = reversed(self.compared.noted_lines[: self.places[id(line)]])
+        before = (it for it in earlier if same_thread(it, line) and not is_wait(it))
         if next(before, line).place != line.place:
             raise Open("a call was made within another one, as by a handler of a signal")
         return start
@@ -187,14 +192,15 @@ class Builder:
     def of_process(
         self, number: int, start: int, system: list[Line], asides: list[Aside], is_first: bool
     ) -> list[Noted]:
-        """The calls of a process after it came, with what the shim asked aside, and its exit, if that came."""
+        """The calls of a process after it came, with what the shim asked aside, and its exit, if that came, and no later
+        than a wait told."""
         found: list[Noted] = []
         for at, line in enumerate(system):
             found += self.asked_aside(number, (start, self.after(line) - 1), at, asides, is_first)
             found += self.calls_of(start, [line])
             start = start if is_piece(system[at : at + 2]) else self.after(line)
         found += self.asked_aside(number, (start, self.last), len(system), asides, is_first)
-        return [*found, Noted(start, None, plain_model.Act(number, "exit"), UNKNOWN)]
+        return [*found, Noted(start, self.gone.get(number), plain_model.Act(number, "exit"), UNKNOWN)]
 
     def calls_of(self, start: int, lines: list[Line]) -> list[Noted]:
         """Calls one after another, which began after a time."""

@@ -15,6 +15,7 @@
                         are the same, with `-` in place of the place, and of other threads than the first one to make a
                         call of its process `-1`, `-2` and so on.
      FDREF_STARTS=1     In a native run `@` stands after that, and how many bytes the log had before the call began.
+                        `-@57 p0 wait = 1` is a wait that has told that child 1 had ended.
      FDREF_STRICT=1     What fdref leaves out is told on standard error, and the program ends with status 125.
      FDREF_PAST=FILE    Each call that is left to the system or fails with ENOSYS, as far as it is seen, is appended to
                         FILE as a line: with the place of the last record of its process, the process, its kind, and

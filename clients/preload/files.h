@@ -375,7 +375,8 @@ pid_t vfork(void)
     return fork();
 }
 
-/* Notes a child that a signal ended, where its parent is told of it, with its number where that is known. */
+/* Notes a child that has ended, where its parent is told of it, and its number is known; one that a signal ended in any
+   case. */
 static pid_t ended_child(pid_t child, int status)
 {
     char number[12], name[24] = "";
@@ -384,7 +385,9 @@ static pid_t ended_child(pid_t child, int status)
         at++;
     if (at < CHILDREN)
         snprintf(name, sizeof name, "p%ld", children[at].number);
-    if (child > 0 && WIFSIGNALED(status)) {
+    if (at < CHILDREN && (WIFEXITED(status) || WIFSIGNALED(status)))
+        log_wait(children[at].number);
+    if (WIFSIGNALED(status)) {
         snprintf(number, sizeof number, "%d", WTERMSIG(status));
         notes("signal", number, *name ? name : NULL);
     }
@@ -411,6 +414,8 @@ int waitid(idtype_t kind, id_t which, siginfo_t *given, int options)
     find(&next, "waitid");
     memset(&own, 0, sizeof own);
     done = next(kind, which, to, options);
+    if (done == 0 && to->si_pid > 0 && to->si_code == CLD_EXITED)
+        ended_child(to->si_pid, 0);
     if (done == 0 && to->si_pid > 0 && (to->si_code == CLD_KILLED || to->si_code == CLD_DUMPED))
         ended_child(to->si_pid, to->si_status);
     return done;

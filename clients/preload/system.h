@@ -532,6 +532,16 @@ static void put_no_place(void)
         put("@%lld", (long long)began);
 }
 
+/* Appends to a native log whose lines tell when calls began that a wait has told that a child had ended. */
+static void log_wait(long child)
+{
+    char text[100];
+    int size = snprintf(text, sizeof text, "-@%lld p%lu wait = %ld\n", (long long)log_length(),
+                        (unsigned long)native_number, child);
+    if (how == NATIVE && tells_starts && log_file >= 0)
+        append(log_file, "the log", text, (size_t)size);
+}
+
 /* Appends a line: at a place of the record, or `-`; with an outcome, or the name of a refusal. */
 static void log_line(const uint64_t *place, struct fdref_act act, const struct fdref_outcome *outcome,
                      const char *refusal)

@@ -576,6 +576,27 @@ def in_step(order: Sequence[str], more: str = "") -> tuple[str, str]:
     return "; ".join(system), "; ".join(f"{at} {line}" for at, line in enumerate(fdref))
 
 
+def one_by_one(text: str) -> str:
+    """The lines of a native log, each of a call that began when the one before it had its line."""
+    size, found = 0, []
+    for line in lines_of(text):
+        found.append(f"-@{size} {line}")
+        size += len(found[-1]) + 1
+    return "; ".join(found)
+
+
+# A child has the writing end of a pipe until it exits, which its parent waits for, before it reads.
+A_LAST_WRITER = "p0 pipe = 0 1; p0 fork = 1; p0 setfl 0 r,nonblock = ok; p0 close 1 = ok; p1 close 0 = ok"
+EXITS_HERE = (
+    A_PIPE + "4 p0 setfl 0 r,nonblock = ok; 5 p0 close 1 = ok; 6 p1 close 0 = ok; 7 p1 exit = ok; 8 p0 read 0 1 = x"
+)
+
+# The line of the wait has bytes 127 to 144.
+READS_BESIDE = (
+    "-@0 p0 pipe = 0 1; -@18 p0 fork = 1; -@35 p0 fork = 2; -@52 p0 setfl 0 r,nonblock = ok; -@84 p0 close 1 = ok; "
+    "-@105 p2 close 1 = ok; -@127 p0 wait = 1;"
+)
+
 ORDERS = [
     Orders(
         "two processes and a name that one of them makes",
@@ -783,6 +804,33 @@ ORDERS = [
         f"a difference: {NO_ORDER}",
         1,
     ),
+    *[
+        Orders(
+            f"a child that has exited {when}",
+            one_by_one(f"{A_LAST_WRITER}; {rest}"),
+            EXITS_HERE,
+            f"reason: {AN_ORDER}" if is_found else NO_ORDER,
+            f"agreement: {AN_ORDER}" if is_found else f"a difference: {NO_ORDER}",
+            0 if is_found else 1,
+        )
+        for when, rest, is_found in (
+            ("before a read, as its parent's wait told", "p0 wait = 1; p0 read 0 1 = error EAGAIN", False),
+            ("perhaps after a read", "p0 read 0 1 = error EAGAIN; p0 wait = 1", True),
+            ("perhaps after a read, which nobody waits for", "p0 read 0 1 = error EAGAIN", True),
+        )
+    ],
+    *[
+        Orders(
+            f"a child that has exited, and another process whose read had begun {when} its parent's wait told it",
+            f"{READS_BESIDE} -@{size} p2 read 0 1 = error EAGAIN",
+            TWO_HERE + "6 p0 setfl 0 r,nonblock = ok; 7 p0 close 1 = ok; 8 p2 close 1 = ok; 9 p1 exit = ok; "
+            "10 p2 read 0 1 = x",
+            f"reason: {AN_ORDER}" if is_found else NO_ORDER,
+            f"agreement: {AN_ORDER}" if is_found else f"a difference: {NO_ORDER}",
+            0 if is_found else 1,
+        )
+        for when, size, is_found in (("before", 127, True), ("after", 145, False))
+    ],
     Orders(
         "one process",
         "p0 pipe = 0 1; p0 setfl 1 r,nonblock = ok; p0 write 1 61*2000 = 2000; p0 read 0 2000 = 61*2000",

@@ -523,6 +523,8 @@ def cases(bench: Bench) -> Iterator[Case]:
         yield f"writes that are torn, by {way}", partial(finds_torn_writes, bench, way)
     yield "calls that end early", partial(finds_early_ends, bench)
     yield "a read of more than was asked for", partial(finds_long_reads, bench)
+    for word, line in WRONGED.items():
+        yield f"a wrong call: {word}", partial(finds_wrong_calls, bench, word, line)
     yield "the library itself in LD_PRELOAD", partial(leaves_out_itself, bench)
     yield "a program that takes long", partial(tells_long_runs, bench)
     yield "a server that leaves a process", partial(is_left_by_server, bench)
@@ -633,6 +635,26 @@ def finds_long_reads(bench: Bench) -> None:
     said = ran.stdout.decode("ascii").splitlines()
     require(ran.status == 1 and {"system: p0 pread 9 1 1 = 2", NONE} <= set(said), ran.said())
     require(said[-1].startswith("verdict: a difference: "), ran.said())
+
+
+# What a wrong C library answers to a program, by what it is wrong about.
+WRONGED = {
+    "dry-end": "system: p0 read 3 1 = error EAGAIN",
+}
+
+
+def finds_wrong_calls(bench: Bench, word: str, line: str) -> None:
+    """A wrong answer of a C library is a difference. Without that library the program has none."""
+    library, program = bench.path("wrong.so"), bench.compiled("judge_wronged")
+    if not os.path.exists(library):
+        compiles([bench.compiler, "-O2", *WARNINGS, "-shared", "-fPIC", str(C_TESTS / "wrong_calls.c"), "-o", library])
+    shim = ("--shim", bench.shim(), *SOON)
+    ran = bench.judged(*shim, "--preload", library, program, word, variables=(f"WRONG={word}",))
+    said = ran.stdout.decode("ascii").splitlines()
+    require(ran.status == 1 and any(it.startswith(line) for it in said), ran.said())
+    require(said[-1].startswith("verdict: a difference: "), ran.said())
+    right = bench.judged(*shim, program, word)
+    require(right.status == 0, right.said())
 
 
 def leaves_out_itself(bench: Bench) -> None:

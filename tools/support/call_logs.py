@@ -1,6 +1,7 @@
 """Logs of calls, as the shim writes them: the calls of each process in its order, whatever its number is.
 
-A line tells a call and the answer that ended it. Who came and went is not in a log, but for the forks.
+A line tells a call and the answer that ended it. Who came and went is not in a log, but for the forks. A native one may
+also have a line of a wait that told which child had ended, which is no call of fdref.
 """
 
 import re
@@ -28,6 +29,11 @@ def read_lines(text: bytes, log: str) -> list[Line]:
 def word_of(line: Line) -> str:
     """The word of a line's act."""
     return line.act.split(" ")[1]
+
+
+def is_wait(line: Line) -> bool:
+    """Whether it tells that a wait has told which child had ended."""
+    return word_of(line) == "wait"
 
 
 def call_of(line: Line) -> str:
