@@ -60,10 +60,10 @@ The last line says what the exit status means:
 0  both ended by themselves, with the same status, standard output and standard error, each answer is the
    same, or comes by another order of the same calls, and the audit finds the trace legal, whatever went past
    fdref
-1  the answer to the same call differs, and none of these may be why: a reason, an order that was not decided
-   on, what is told to go past fdref before it (tools/causes.py has what is known to be harmless), a thread
-   that waits and holds its process, a child that a signal ended, a descriptor that no call of fdref made, and
-   a right. Or no order gives the answers; or the audit finds a fault
+1  the answer to the same call differs, or that of F_GETFD from how FD_CLOEXEC was set, and none of these may be
+   why: a reason, an order that was not decided on, what is told to go past fdref before it (tools/causes.py has
+   what is known to be harmless), a thread that waits and holds its process, a child that a signal ended, a
+   descriptor that no call of fdref made, and a right. Or no order gives the answers; or the audit finds a fault
 2  wrong words
 3  not judged: answers differ that have a reason; or one of these may be why; or a process makes another call, so
    that its program went another way, as by the time, a timer, the number of a process, an address or a mode; or
@@ -489,6 +489,7 @@ class Verdict:
         self.findings, self.unexplained = self.compared.findings, self.compared.unexplained
         self.past = past.past_of(both.past)
         self.native = past.past_of(both.system_past)
+        self.flags, self.flags_by = past.flags(self.native, self.past)
         self.crashes = [CRASHES[number] for number in past.signals(self.past) if number in CRASHES]
         if not self.compared.fdref.total() and not self.compared.system.total():
             told = told_started(self.compared.started) + past.told_past(self.past) + told_fault(both.fdref)
@@ -536,6 +537,12 @@ class Verdict:
 
     def differs(self) -> bool:
         """Whether an answer differs that neither a reason nor an order of the calls explains."""
+        if self.flags and not self.flags_by:
+            return True
+        return self.differs_in_calls()
+
+    def differs_in_calls(self) -> bool:
+        """The same of an answer that has a line."""
         if self.order and self.order.is_found is not None:
             return not self.order.is_found
         return bool(self.bare) and not self.is_open()
@@ -629,7 +636,7 @@ class Verdict:
             return 1
         if self.is_caused() or not self.has_ended() or crash_of(self.both) or self.crashes:
             return 3
-        is_alike = not self.counted() and not (self.order and self.order.is_roomy)
+        is_alike = not self.counted() and not self.flags and not (self.order and self.order.is_roomy)
         return 0 if is_alike and self.both.system == self.both.fdref else 3
 
 
@@ -820,10 +827,12 @@ def told_unexplained(verdict: Verdict) -> str:
 
 def told_difference(verdict: Verdict) -> str:
     """What status 1 means."""
-    if verdict.differs() and verdict.order and verdict.order.is_found is False:
+    if verdict.differs_in_calls() and verdict.order and verdict.order.is_found is False:
         return verdict.order.said
-    if verdict.differs():
+    if verdict.differs_in_calls():
         return told_unexplained(verdict)
+    if verdict.differs():
+        return past.told_flags(verdict.flags)[0]
     return "the audit finds a fault in the trace of fdref"
 
 
@@ -836,6 +845,8 @@ def told_not_judged(verdict: Verdict) -> str:
         return "neither of the two ended" + (", but for the program itself" if is_gone else "")
     if crash_of(verdict.both) or verdict.crashes:
         return "a crash is no agreement"
+    if verdict.flags_by:
+        return f"{past.told_flags(verdict.flags)[0]}, perhaps by {verdict.flags_by.why()}"
     if verdict.both.system == verdict.both.fdref:
         return told_reasons(verdict)
     cause, order = verdict.cause_of_end(), verdict.order
@@ -884,6 +895,7 @@ def told(verdict: Verdict, seconds: float, before: int) -> str:
     lines.append(f"{calls} of {processes}: {differ}")
     lines += told_finding(verdict, before) if findings else []
     lines += told_counts(verdict) if findings else []
+    lines += past.told_flags(verdict.flags)
     is_other = bool(findings) or do_outputs_differ(verdict.both)
     lines += past.told_signals(every) if is_other else []
     lines += told_looks(len(verdict.compared.looks()))

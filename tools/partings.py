@@ -442,8 +442,8 @@ def check_places(lines: list[Line], trace: list[Line]) -> None:
 
 class Compared:
     """Two logs, which are compared: what is found, and the first finding that has no reason and follows from none. The
-    run on the system may have been killed, and the one with fdref may have ended by itself. Its log also tells of waits.
-    What was noted natively tells which signals had handlers. The room of a pipe of the system may be known."""
+    run on the system may have been killed, and its log tells of waits. The one with fdref may have ended by itself. What
+    was noted natively tells which signals had handlers. The room of a pipe of the system may be known."""
 
     def __init__(
         self,

@@ -8,6 +8,7 @@ import re
 from typing import NamedTuple
 
 from support.runs import Line
+from support.texts import several
 
 # The kinds that are counted, and what is said of one.
 CALL, STDIO, THREAD, PROGRAM, STREAM, PATH = "call", "stdio", "thread", "program", "stream", "path"
@@ -26,6 +27,8 @@ TIMER, LIMIT, MADE = "timer", "limit", "made"
 HANDLER = "handler"
 # A call that makes a descriptor of the system, which natively has a low number.
 MAKES = "makes"
+# A native F_GETFD or F_SETFD that has answered otherwise than by the flag as it was set.
+CLOEXEC = "cloexec"
 COUNTED = {
     PATH: "path",
     STREAM: "stream",
@@ -201,6 +204,23 @@ def doubt(every: list[Past]) -> str:
 def made(every: list[Past]) -> list[Past]:
     """The descriptors that are open natively, and that no call made which fdref knows."""
     return [it for it in every if it.kind == MADE]
+
+
+def flags(native: list[Past], every: list[Past]) -> tuple[list[Past], Past | None]:
+    """The native answers about FD_CLOEXEC that are otherwise than it was set; and what went past fdref that may have
+    set it, or have put another file at such a descriptor: a call by its number, or with that descriptor."""
+    found = [it for it in native if it.kind == CLOEXEC]
+    descriptors = {it.name.split(" ")[0] for it in found}
+    likely = (it for it in every if it.call.startswith("syscall of ") or it.descriptor() in descriptors)
+    return found, next(likely, None) if found else None
+
+
+def told_flags(found: list[Past]) -> list[str]:
+    """The first answer about FD_CLOEXEC that is otherwise, and how many there are."""
+    if not found:
+        return []
+    count = several(len(found), "answer about FD_CLOEXEC differs", "answers about FD_CLOEXEC differ")
+    return [f"{count} from what was set: system: p{found[0].number} fcntl {found[0].call} {found[0].name}"]
 
 
 def cuts(every: list[Past]) -> bool:

@@ -192,8 +192,8 @@ class Builder:
     def of_process(
         self, number: int, start: int, system: list[Line], asides: list[Aside], is_first: bool
     ) -> list[Noted]:
-        """The calls of a process after it came, with what the shim asked aside, and its exit, if that came, and no later
-        than a wait told."""
+        """The calls of a process after it came, with what the shim asked aside, and its exit, if that came, by the time
+        that a wait told it."""
         found: list[Noted] = []
         for at, line in enumerate(system):
             found += self.asked_aside(number, (start, self.after(line) - 1), at, asides, is_first)

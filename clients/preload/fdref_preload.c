@@ -29,11 +29,13 @@
                         as a program starts a timer or sets that limit or RLIMIT_NOFILE, and
                         `- 6 p0 handler 14<tab>ends`, as it sets a handler of signal 14 that ends calls, or `restarts`
                         them, or takes it away (`none`). `- 6 p0 makes socket` is a call that makes a descriptor of the
-                        system, from 32 on, where a native run has the lowest that is free. In a native run four kinds
+                        system, from 32 on, where a native run has the lowest that is free. In a native run five kinds
                         are there: after `- 0 p0 cut exit` a process ended while others of its threads may have been in
                         a call; by `! 0 p0 made 3` a descriptor is higher since 3 is open, which no call made that fdref
-                        knows; and `signal` and `handler`, with the length of the log in the place of the place. There a
-                        child has the handlers of its parent once more, and after an exec 0 stands for all signals.
+                        knows; and `signal`, `handler` and `! 57 p0 cloexec F_GETFD<tab>3 = 0`, with the length of the
+                        log in the place of the place: F_GETFD, or F_SETFD, has answered otherwise than by FD_CLOEXEC as
+                        this library keeps it, in a process of one thread. There a child has the handlers of its parent
+                        once more, and after an exec 0 stands for all signals.
 
    Without the first two nothing is changed, nor before a program has its environment, as in .preinit_array. Where there
    is no answer (no server, no place at it for one more process, a run that is full, a lost connection), and where a
@@ -74,7 +76,7 @@
        comes when the server sees the connection closed, so perhaps after its parent's wait.
 
    What is ignored: the mode of a new file, O_NOCTTY, O_NOFOLLOW, O_SYNC and its kin, fsync, which is EINVAL of a pipe,
-   and in F_SETFL each flag that Linux ignores there. FD_CLOEXEC is only kept.
+   and in F_SETFL each flag that Linux ignores there. FD_CLOEXEC is kept by this library, in both runs.
 
    What is left out, so that FDREF_STRICT tells it. tests/c/descriptor_functions.txt has each function of glibc that
    takes a descriptor or a path, and what is done with it.
@@ -161,6 +163,9 @@
 #include <utime.h>
 #include <utmp.h>
 #ifdef __GLIBC__
+#if __GLIBC_PREREQ(2, 32)
+#include <sys/single_threaded.h>
+#endif
 #include <execinfo.h>
 #include <fts.h>
 #include <mntent.h>
@@ -414,13 +419,17 @@ static int close_others(unsigned first, unsigned last, int flags, closes_range *
     return done == 0 && first <= last && first != own_from(first) ? next(first, last, flags) : done;
 }
 
-/* Logs that the system has closed a range. */
+/* Logs that the system has closed a range, or keeps that an exec would. */
 static int note_closed(unsigned first, unsigned last, int flags, int done)
 {
-    for (; done == 0 && (flags & KEEPS_TILL_EXEC) == 0 && first < NUMBERS && first <= last; first++) {
-        if (slots[first].held == OURS)
+    for (; done == 0 && first < NUMBERS && first <= last; first++) {
+        int is_kept = (flags & KEEPS_TILL_EXEC) != 0;
+        if (is_kept)
+            slots[first].is_cloexec = 1;
+        else if (slots[first].held == OURS)
             noted(fdref_act_close((int)first), 0);
-        set_free((int)first);
+        if (!is_kept)
+            set_free((int)first);
     }
     return done;
 }

@@ -147,8 +147,32 @@ static int control_ours(int fd, int command, int argument)
     }
 }
 
+/* What F_GETFD or F_SETFD has to give of a descriptor, or -1. */
+static int flag_of(int fd, int command)
+{
+    struct slot slot = slot_of(fd);
+    return slot.held == FREE ? -1 : command == F_GETFD && slot.is_cloexec ? FD_CLOEXEC : 0;
+}
+
+/* Notes natively that the system has given something else. */
+static int64_t flag_noted(int fd, int command, int argument, int given)
+{
+    char text[40];
+    int error = errno, is_set = command == F_SETFD, is_fault = given < 0 && errno != EBADF;
+    if (is_alone() && (is_fault || (given < 0 ? -1 : given & FD_CLOEXEC) != flag_of(fd, command))) {
+        snprintf(text, sizeof text, "%d = %s%d", fd, given < 0 ? "error " : "", given < 0 ? error : given);
+        note_past('!', (uint64_t)log_length(), native_number, "cloexec", is_set ? "F_SETFD" : "F_GETFD", text);
+    }
+    if (is_set && given >= 0 && slot_of(fd).held != FREE)
+        set_cloexec(fd, (argument & FD_CLOEXEC) != 0);
+    errno = error;
+    return given;
+}
+
 static int64_t control_noted(int fd, int command, int flags, int given)
 {
+    if (command == F_GETFD || command == F_SETFD)
+        return flag_noted(fd, command, flags, given);
     if (command == F_GETFL)
         return ALONE(note(fdref_act_getfl(fd), fdref_result_flags(given & STATUS_FLAGS), given));
     return is_asked_to_set(command, flags) ? noted(fdref_act_setfl(fd, flags & ASKED_FLAGS), given) : given;
@@ -157,7 +181,11 @@ static int64_t control_noted(int fd, int command, int flags, int given)
 static int is_duplicating(int command) { return command == F_DUPFD || command == F_DUPFD_CLOEXEC; }
 
 /* Whether a command is one of fdref, all of which wait for nobody. */
-static int is_commanded(int command) { return is_duplicating(command) || command == F_GETFL || command == F_SETFL; }
+static int is_commanded(int command)
+{
+    int is_of_flags = command == F_GETFL || command == F_SETFL || command == F_GETFD || command == F_SETFD;
+    return is_duplicating(command) || is_of_flags;
+}
 
 static int is_controlled(struct going *it, int fd, int command, int argument)
 {
@@ -238,8 +266,12 @@ int ioctl(int fd, int command, ...)
         flags = system_fcntl(fd, F_GETFL, 0);
         return (int)let_in(nonblock_noted(fd, *(const int *)argument, flags, BEHIND(next(fd, command, argument))));
     }
-    if (way != ASK)
-        return next(fd, command, argument);
+    if (way != ASK) {
+        int given = next(fd, command, argument);
+        if (way == NOTE && given == 0 && slot_of(fd).held != FREE && (command == FIOCLEX || command == FIONCLEX))
+            set_cloexec(fd, command == FIOCLEX);
+        return given;
+    }
     if (slot_of(fd).held != FREE && (command == FIOCLEX || command == FIONCLEX))
         return set_cloexec(fd, command == FIOCLEX);
     return refuse(fd, "ioctl");

@@ -145,6 +145,16 @@ static int64_t fails(int number)
     return -1;
 }
 
+/* Whether this process certainly has one thread, so that nothing comes between a call of the system and a look. */
+static int is_alone(void)
+{
+#if defined __GLIBC__ && __GLIBC_PREREQ(2, 32)
+    return __libc_single_threaded;
+#else
+    return 0;
+#endif
+}
+
 /* ---- the table */
 
 enum { NUMBERS = 32 };

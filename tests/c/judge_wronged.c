@@ -1,11 +1,12 @@
 /* Makes calls of which a system is wrong about one, as tests/c/wrong_calls.c is, and goes on as if it were right.
 
-   usage: judge_wronged dry-end */
+   usage: judge_wronged WAY */
 
 #define _DEFAULT_SOURCE
 
 #include <fcntl.h>
 #include <string.h>
+#include <sys/ioctl.h>
 #include <sys/wait.h>
 #include <unistd.h>
 
@@ -23,12 +24,41 @@ static void meet_dry_end(void)
     read(ends[0], bytes, 1);
 }
 
+static void keep_flags(void)
+{
+    int copies[6];
+    fcntl(ends[0], F_SETFD, FD_CLOEXEC);
+    fcntl(ends[0], F_GETFD);
+    copies[0] = dup(ends[0]);
+    copies[1] = dup2(ends[0], 9);
+    copies[2] = fcntl(ends[0], F_DUPFD, 12);
+    copies[3] = fcntl(ends[0], F_DUPFD_CLOEXEC, 12);
+    copies[4] = open("a", O_RDWR | O_CREAT | O_CLOEXEC, 0600);
+    copies[5] = 99;
+    for (int at = 0; at < 6; at++)
+        fcntl(copies[at], F_GETFD);
+    dup2(ends[0], ends[0]);
+    fcntl(ends[0], F_GETFD);
+    ioctl(copies[0], FIOCLEX);
+    ioctl(copies[4], FIONCLEX);
+    fcntl(copies[0], F_GETFD);
+    fcntl(copies[4], F_GETFD);
+    close(copies[4]);
+    fcntl(copies[4], F_GETFD);
+    if (fork() == 0)
+        _exit(fcntl(ends[0], F_GETFD) == 99);
+    wait(NULL);
+}
+
 int main(int count, char **words)
 {
     static const struct {
         const char *name;
         void (*does)(void);
-    } ways[] = {{"dry-end", meet_dry_end}};
+    } ways[] = {
+        {"dry-end", meet_dry_end},       {"cloexec-lost", keep_flags},
+        {"cloexec-copied", keep_flags}, {"cloexec-unset", keep_flags},
+    };
     if (count != 2 || pipe(ends) != 0)
         return 1;
     for (size_t at = 0; at < sizeof ways / sizeof *ways; at++)

@@ -1162,6 +1162,27 @@ def tells_looks() -> None:
     same((agreement, 0), ending(verdict))
 
 
+FLAGS = "1 answer about FD_CLOEXEC differs from what was set: system: p0 fcntl F_GETFD 3 = 0"
+# What went past fdref, and what is said of a native F_GETFD that does not give what was set.
+FLAGS_BY = {
+    "": f"a difference: {FLAGS}",
+    "! 1 p0 call poll\t4": f"a difference: {FLAGS}",
+    "! 1 p0 call fdopen\t3": f"not judged: {FLAGS}, perhaps by fdopen on descriptor 3, which went past fdref",
+    "! 1 p0 call syscall of dup3": f"not judged: {FLAGS}, perhaps by syscall of dup3, which went past fdref",
+}
+
+
+def tells_flags(noted: str, said: str) -> None:
+    """A native F_GETFD that does not give what was set is a difference, unless what went past fdref may be why."""
+    trace = lines_of("0 p0 join = 0; 1 p0 pipe = 0 1")
+    native = as_bytes(["! 16 p0 cloexec F_GETFD\t3 = 0"])
+    past_fdref = as_bytes([noted] if noted else [])
+    both = judge.Both(WELL, WELL, as_bytes(["- p0 pipe = 0 1"]), as_bytes(logged(trace)), trace_of(trace), past_fdref)
+    verdict = judge.Verdict(both._replace(system_past=native), "legal 2 rest 0")
+    same((f"verdict: {said}", 1 if said.startswith("a difference") else 3), ending(verdict))
+    require(FLAGS in judge.told(verdict, 60, 0).splitlines(), judge.told(verdict, 60, 0))
+
+
 def is_left(noted: str, status: int) -> None:
     """A call that fdref answers, and in which the system may have been when it was killed, is a difference unless what
     is noted may be why."""
@@ -1230,6 +1251,8 @@ def cases() -> Iterator[Case]:
         ("! 1 p0 path chdir\t/", 3),
     ):
         yield f"a call that the system did not answer, after {noted}", partial(is_left, noted, status)
+    for noted, said in FLAGS_BY.items():
+        yield f"a flag that is not as it was set, after {noted}", partial(tells_flags, noted, said)
     for ways in WAYS:
         yield f"another way: {ways}", partial(goes_another_way, *ways)
     for rooms in ROOMS:

@@ -640,6 +640,9 @@ def finds_long_reads(bench: Bench) -> None:
 # What a wrong C library answers to a program, by what it is wrong about.
 WRONGED = {
     "dry-end": "system: p0 read 3 1 = error EAGAIN",
+    "cloexec-lost": "7 answers about FD_CLOEXEC differ from what was set: system: p0 fcntl F_GETFD 3 = 0",
+    "cloexec-copied": "1 answer about FD_CLOEXEC differs from what was set: system: p0 fcntl F_GETFD 5 = 1",
+    "cloexec-unset": "1 answer about FD_CLOEXEC differs from what was set: system: p0 fcntl F_GETFD 6 = 0",
 }
 
 
