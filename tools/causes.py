@@ -13,7 +13,7 @@ is the same, all that is told before it, of any process, may be why, but for wha
 - What changes one name, by its path (OF_A_PATH), is harmless to other names, and to what is behind these. It may not
   lead to files of fdref by another spelling, or by a descriptor (leads_to_files). What makes such a path is not here.
 - What takes a number, as a stream, which has a low one natively, is harmless where no answer tells a number, that it is
-  open, or that none is free.
+  open natively alone, or that none is free there. A limit of numbers is harmless but where one or a new one is refused.
 - A child that a signal ended is kept for a while at most, and holds the ends of pipes (OF_PIPES of past.py).
 
 What is told and not listed here, as a new kind of it, may be why any answer differs.
@@ -103,7 +103,7 @@ def is_plain(path: str) -> bool:
 def extent(one: Past, folder: str) -> str:
     """How much of what fdref has may be another one because of it, but for numbers."""
     is_path = one.kind in (past.PATH, past.STREAM)
-    if one.kind in (*ASIDE, past.MADE) or ((is_path or one.kind == past.CALL) and changes_nothing(one)):
+    if one.kind in (*ASIDE, past.MADE) or is_limit_of_numbers(one) or ((is_path or one.kind == past.CALL) and changes_nothing(one)):
         return NOTHING
     if one.kind == past.STDIO or (one.descriptor() and OF_A_DESCRIPTOR.fullmatch(one.call)):
         return ITS_OWN
@@ -117,19 +117,32 @@ def changes_nothing(one: Past) -> bool:
     return any(kind.fullmatch(one.call) for kind in (past.LOOKS, past.LISTS, ASKS))
 
 
+def is_limit_of_numbers(one: Past) -> bool:
+    """Whether a program has set how many descriptors it may have."""
+    return one.kind == past.LIMIT and one.call == "RLIMIT_NOFILE"
+
+
 def takes_number(one: Past) -> bool:
     """Whether it may natively take a number that is free with fdref."""
     return one.kind in (past.STREAM, past.MADE, past.MAKES) or bool(past.TAKES.fullmatch(one.call))
 
 
 def tells_number(parting: Parting) -> bool:
-    """Whether an answer tells a number of a descriptor, that there is one, or that none is free."""
+    """Whether an answer tells a number of a descriptor that the system has chosen, that there is one which fdref does
+    not have, or that none is free."""
     both = [line for line in (parting.system, parting.fdref) if line]
     outcomes = [line.outcome for line in both]
-    if any(outcome in ("error EBADF", "error EMFILE") for outcome in outcomes):
+    is_taken = parting.system is not None and parting.system.outcome == "error EMFILE"
+    if is_taken or (parting.fdref is not None and parting.fdref.outcome == "error EBADF"):
         return True
-    is_told = len(both) == 2 and word_of(both[0]) in CHANGE_DESCRIPTORS
+    is_told = len(both) == 2 and word_of(both[0]) in CHANGE_DESCRIPTORS and word_of(both[0]) != "dup2"
     return is_told and "".join(outcomes).replace(" ", "").isdigit()
+
+
+def refuses_number(parting: Parting) -> bool:
+    """Whether an answer tells that a number may not be, or that no other one may."""
+    outcomes = [line.outcome for line in (parting.system, parting.fdref) if line]
+    return any(outcome in ("error EBADF", "error EMFILE") for outcome in outcomes)
 
 
 # ---- what differences have to do with
@@ -254,6 +267,7 @@ class Causes:
         near = [it for it in known if it.names & finding.names or it.things & things]
         found = near or (known if id(parting) in self.reached else [])
         found += [it for it in before if self.extents[id(it)] == ALL and self.can_be(it, parting)]
+        found += [it for it in before if is_limit_of_numbers(it) and refuses_number(parting)]
         if tells_number(parting):
             made = [it for way, it in self.made if parting.way[: len(way)] == way]
             # the first is the lowest, where no stream may have made it

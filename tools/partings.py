@@ -182,6 +182,51 @@ class Turns:
         return self.overlap(line) and (place in self.places or not self.are_all_there)
 
 
+def are_backwards(log: Log) -> set[int]:
+    """The lines of pipes, by their ids, whose first end is the one to write, or the second one the one to read, as
+    later calls tell that are made with them."""
+    found = set()
+    for way, calls in log.calls.items():
+        for at, line in enumerate(calls):
+            ends = line.outcome.split(" ")
+            if word_of(line) == "pipe" and len(ends) == 2 and ends[0].isdigit() and is_backwards(log, way, at + 1, ends):
+                found.add(id(line))
+    return found
+
+
+def is_backwards(log: Log, way: Way, start: int, ends: Sequence[str]) -> bool:
+    """Whether a process that has these ends of a pipe finds that they have changed places, or a child of it does."""
+    is_open = dict.fromkeys(ends, True)
+    calls = log.calls.get(way, [])
+    children = sum(is_child_made(line) for line in calls[:start])
+    for line in calls[start:]:
+        word, *fields = call_of(line).split(" ")
+        if fields and is_open.get(fields[0]) and is_other_end(word, fields[0] == ends[0], line.outcome):
+            return True
+        gone = fields[-1] if word == "dup2" else fields[0] if word == "close" else ""
+        is_open[gone] = is_open.get(gone, False) and line.outcome.startswith("error ")
+        if is_child_made(line):
+            left = [end if is_open[end] else "" for end in ends]
+            if is_backwards(log, (*way, children), 0, left):
+                return True
+            children += 1
+    return False
+
+
+def is_child_made(line: Line) -> bool:
+    """Whether it is a fork that made a process."""
+    return word_of(line) == "fork" and line.outcome.isdigit()
+
+
+def is_other_end(word: str, is_first: bool, outcome: str) -> bool:
+    """Whether a call with the first or second end of a pipe, which is open, tells that it is not the one to read, or to
+    write."""
+    modes = {"1": True, "2": False}
+    if word == "getfl" and outcome.isdigit():
+        return modes.get(str(int(outcome) & 3), is_first) != is_first
+    return outcome == "error EBADF" and word == ("read" if is_first else "write")
+
+
 def is_at_the_end(line: Line) -> bool:
     """Whether a record may be there because all processes of a run were killed."""
     return word_of(line) in ("exit", "resume", "close-run")
@@ -197,9 +242,12 @@ class Story:
         handlers: Handlers | None = None,
         turns: Turns | None = None,
         room: int | None = None,
+        backwards: frozenset[int] = frozenset(),
     ) -> None:
         self.trace = trace
         self.room = room
+        # the native pipes whose ends are not what they have to be
+        self.backwards = backwards
         self.handlers = handlers or Handlers((), ())
         self.turns = turns or Turns((), self.handlers, [], limits)
         self.judge = Judge(limits)
@@ -322,6 +370,8 @@ def reason_of(it: Difference, line: Line, story: Story) -> Reason | None:
     append before it, or by who came first."""
     is_roomy = may_be_room(it, story.room)
     known = [one for one in (*compare_reasons.REASONS, *MORE_REASONS) if is_roomy or not is_of_room(one)]
+    if id(line) in story.backwards:
+        known = [one for one in known if one.fits is not compare_reasons.is_turned]
     reason = ended_by(it, line, story) or next((one for one in known if one.fits(it)), None)
     is_appended = bool(it.at and not it.at.pipe and any(it.at.file is file for file in story.appended))
     by_others = APPENDED if is_appended else OF_TIME if is_shared(it, story) else None
@@ -477,7 +527,8 @@ class Compared:
 
     def story(self) -> Story:
         """What fdref recorded, from its beginning."""
-        return Story(self.records, self.limits, self.handlers, self.turns, self.room)
+        backwards = frozenset(are_backwards(self.system))
+        return Story(self.records, self.limits, self.handlers, self.turns, self.room, backwards)
 
     def looks(self) -> list[int]:
         """The places at which the library looked at a name for the program, as stat, access and truncate do."""

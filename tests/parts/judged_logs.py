@@ -47,6 +47,7 @@ APPENDS = "pwrite under O_APPEND appends"
 NAMES = "names that the profile does not take"
 LINKS = "size and links of a pipe in fstat"
 ROOM = "room of a pipe"
+TURNS = "which end of a pipe has the lower number"
 EINTR = "a signal ends a call (EINTR): signal 14 (SIGALRM) has a handler"
 CUT = "a signal cuts a write short: signal 14 (SIGALRM) has a handler"
 TURNED = "O_NONBLOCK is set while a call waits"
@@ -462,6 +463,42 @@ LOGS = [
         ["p0 read 0 1: no call, parked 0: none"],
         fdref_ends=KILLED,
         cause=causes.NUMBERS,
+    ),
+    Logs(
+        "a pipe whose first end has the higher number, and is the one to read",
+        "p0 pipe = 1 0; p0 write 0 x61 = 1; p0 read 1 1 = x61",
+        "0 p0 join = 0; 1 p0 pipe = 0 1; 2 p0 write 1 x61 = 1; 3 p0 read 0 1 = x61",
+        [f"p0 pipe: 1 0, 0 1: {TURNS}", "p0 write 1 x61: write 0 x61, 1: follows"],
+    ),
+    *[
+        Logs(
+            f"a pipe whose first end is the one to write: {system}",
+            f"p0 pipe = 1 0; {system}",
+            f"0 p0 join = 0; 1 p0 pipe = 0 1; 2 p0 {fdref}",
+            ["p0 pipe: 1 0, 0 1: none", f"p0 {found}: none"],
+        )
+        for system, fdref, found in (
+            ("p0 write 0 x61 = error EBADF", "write 1 x61 = 1", "write 1 x61: write 0 x61, 1"),
+            ("p0 read 1 1 = error EBADF", "read 0 0 = x", "read 0 0: read 1 1, x"),
+            ("p0 getfl 1 = 2", "getfl 0 = 1", "getfl 0: getfl 1, 1"),
+        )
+    ],
+    Logs(
+        "a pipe whose first end is the one to write, as a child finds",
+        "p0 pipe = 1 0; p0 fork = 1; p1 read 1 1 = error EBADF",
+        "0 p0 join = 0; 1 p0 pipe = 0 1; 2 p0 fork = 1; 3 p1 attach = ok; 4 p1 read 0 0 = x",
+        ["p0 pipe: 1 0, 0 1: none", "p1 read 0 0: read 1 1, x: none"],
+    ),
+    Logs(
+        "a pipe whose ends change places, of which a child does not have the first one",
+        "p0 pipe = 1 0; p0 close 1 = ok; p0 fork = 1; p1 read 1 1 = error EBADF",
+        "0 p0 join = 0; 1 p0 pipe = 0 1; 2 p0 close 0 = ok; 3 p0 fork = 1; 4 p1 attach = ok; "
+        "5 p1 read 0 1 = error EBADF",
+        [
+            f"p0 pipe: 1 0, 0 1: {TURNS}",
+            "p0 close 0: close 1, ok: follows",
+            "p1 read 0 1: read 1 1, error EBADF: follows",
+        ],
     ),
     Logs(
         "a call that the profile does not have the number for, and one that is no act",
@@ -1012,6 +1049,8 @@ class Causes(NamedTuple):
 A_NUMBER = "p0 open a rw,creat = {}"
 TWO_NUMBERS = ("5", "0")
 NEXT = "p0 open a rw,creat = 0; p0 dup 0 = {}"
+A_COPY = "p0 open a rw,creat = 0; p0 dup2 0 7 = {}"
+NOFILE = "! 0 p0 limit RLIMIT_NOFILE"
 HELLO = ("x6869", "x")
 A_READ = "p0 pipe = 0 1; p0 close 1 = ok; p0 read 0 9 = {}"
 TWO_PIPES = "p0 pipe = 0 1; p0 pipe = 2 3; p0 close 3 = ok; p0 read 2 9 = {}"
@@ -1055,6 +1094,11 @@ CAUSES = [
     Causes("a symbolic link", "! 1 p0 path symlink\tc", "symlink of c"),
     Causes("a number, and a stream", "- 0 p0 stream fopen\t/x", "fopen of /x", A_NUMBER, TWO_NUMBERS),
     Causes("no number free, and a stream", "- 0 p0 stream fopen\t/x", "fopen of /x", NEXT, ("error EMFILE", "1")),
+    Causes("the number that dup2 is asked for", "- 0 p0 stream fopen\t/x", "", A_COPY, ("0", "7")),
+    Causes("dup2 of a number, and a stream", "- 0 p0 stream fopen\t/x", "fopen of /x", A_COPY, ("7", "error EBADF")),
+    Causes("dup2 of a number that is there, and a stream", "- 0 p0 stream fopen\t/x", "", A_COPY, ("error EBADF", "7")),
+    Causes("a limit of numbers", "! 1 p0 limit RLIMIT_NOFILE", ""),
+    Causes("a number, and a limit of numbers", NOFILE, "setrlimit of RLIMIT_NOFILE", NEXT, ("error EMFILE", "1")),
     Causes("a number, and a socket", "- 0 p0 makes socket", MAKES, A_NUMBER, TWO_NUMBERS, MAKES),
     Causes("no number, and a socket", "- 0 p0 makes socket", ""),
     Causes("a number, and a file that both open", "! 0 p0 path open\t/x", "", A_NUMBER, TWO_NUMBERS),
