@@ -268,11 +268,21 @@ class Causes:
         found = near or (known if id(parting) in self.reached else [])
         found += [it for it in before if self.extents[id(it)] == ALL and self.can_be(it, parting)]
         found += [it for it in before if is_limit_of_numbers(it) and refuses_number(parting)]
-        if tells_number(parting):
-            made = [it for way, it in self.made if parting.way[: len(way)] == way]
-            # the first is the lowest, where no stream may have made it
-            found += [it for it in before if takes_number(it)] or made[:1]
-        return found
+        return found + (self.of_number(parting, before) if tells_number(parting) else [])
+
+    def of_number(self, parting: Parting, before: list[Past]) -> list[Past]:
+        """Those that may have taken a number that an answer tells. One that is refused with fdref can have been taken
+        since it was closed there."""
+        made = [it for way, it in self.made if parting.way[: len(way)] == way]
+        since = -1
+        if parting.fdref and parting.fdref.outcome == "error EBADF":
+            number = parting.fdref.act.split(" ")[2]
+            made = [it for it in made if it.call == number]
+            act = f"p{parting.number} close {number}"
+            closed = (place for place in reversed(range(self.places[id(parting)])) if self.records[place].act == act)
+            since = next(closed, -1)
+        # the first is the lowest, where no stream may have made it
+        return [it for it in before if takes_number(it) and (it.number != parting.number or it.place >= since)] or made[:1]
 
     @staticmethod
     def can_be(one: Past, parting: Parting) -> bool:

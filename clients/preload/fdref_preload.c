@@ -53,8 +53,8 @@
 
    What is no single call of fdref:
      - A transfer of more than 65,536 bytes is made, and logged, in pieces of that size until one is short; a read of a
-       pipe is one piece. A native write to a pipe that ends after whole pieces has one more in the log, of EAGAIN, or of
-       nothing where it waits. readv and writev are one transfer.
+       pipe is one piece. A native write that ends after whole pieces, but not all, has one more in the log, of nothing,
+       or of EAGAIN to a pipe where it does not wait. readv and writev are one transfer.
      - stat of a name is an open for reading and writing, an fstat and a close. A name that is there and cannot be
        opened so is a FIFO; it is told to have 1 link and no bytes. statx and access are the same, and truncate has an
        ftruncate in between. None of these is logged, also in a native run. They are EMFILE where no descriptor is free.
@@ -360,8 +360,26 @@ static int is_closed(struct going *it, int fd)
         it->done = it->way == ASK ? ALONE(close_ours(fd)) : ALONE(close_real(fd));
         return 1;
     }
-    set_free(fd);
+    if (how != NATIVE)
+        set_free(fd);
     return 0;
+}
+
+/* A number is free once the system has closed it. What a wrong one keeps open is still what it was. */
+static void set_closed(int fd)
+{
+    if (how != NATIVE || !is_alone() || !is_open_in_kernel(fd))
+        set_free(fd);
+}
+
+static int64_t gone_closed(const struct going *it, int64_t given)
+{
+    int64_t done = gone(it, given);
+    int error = errno;
+    if (!is_behind)
+        set_closed(it->act.fd);
+    errno = error;
+    return done;
 }
 
 #define CLOSES(name) \
@@ -375,7 +393,7 @@ static int is_closed(struct going *it, int fd)
         if (is_closed(&going, fd)) \
             return (int)going.done; \
         NEXT_WITHIN(given, next(fd)); \
-        return (int)gone(&going, given); \
+        return (int)gone_closed(&going, given); \
     }
 
 CLOSES(close)
@@ -429,7 +447,7 @@ static int note_closed(unsigned first, unsigned last, int flags, int done)
         else if (slots[first].held == OURS)
             noted(fdref_act_close((int)first), 0);
         if (!is_kept)
-            set_free((int)first);
+            set_closed((int)first);
     }
     return done;
 }
@@ -517,11 +535,11 @@ static int is_pipe_at(int fd)
     return is_pipe;
 }
 
-/* Logs the next piece of a write to a pipe that came back before it: as EAGAIN where it does not wait, and else as one
-   of nothing, as where a signal came. */
+/* Logs the next piece of a write that came back before it: as EAGAIN where it is to a pipe and does not wait, and else
+   as one of nothing, as where a signal came. */
 static void note_rest(struct fdref_act act)
 {
-    int is_waiting = (system_fcntl(act.fd, F_GETFL, 0) & O_NONBLOCK) == 0;
+    int is_waiting = !is_pipe_at(act.fd) || (system_fcntl(act.fd, F_GETFL, 0) & O_NONBLOCK) == 0;
     errno = EAGAIN;
     note(act, fdref_number(0), is_waiting ? 0 : -1);
 }
@@ -531,7 +549,7 @@ static int has_next_piece(struct fdref_act act, int64_t moved, int64_t given)
 {
     if (!is_write(act.kind))
         return is_pipe_at(act.fd) ? how == NATIVE && moved < given : 1;
-    if (how == NATIVE && moved == given && is_pipe_at(act.fd))
+    if (how == NATIVE && moved == given)
         note_rest(act);
     return how != NATIVE || moved < given;
 }
@@ -961,7 +979,9 @@ static int is_duplicated_to(struct going *it, int fd, int to, int flags)
 static int64_t gone_to(const struct going *it, int64_t given)
 {
     int64_t done = gone(it, given);
-    return is_behind || it->act.fd == it->act.other ? done : taken(done, slot_of(it->act.fd), it->is_cloexec);
+    if (!is_behind && it->act.fd != it->act.other && done >= 0)
+        take(it->act.other, slot_of(it->act.fd), it->is_cloexec);
+    return done;
 }
 
 #define DUPLICATES_TO(name) \
@@ -1005,13 +1025,15 @@ static int64_t dup_from_asked(int fd, int from, int is_cloexec)
     return dup_ours_to(act, is_cloexec);
 }
 
-/* A native F_DUPFD, or F_DUPFD_CLOEXEC. */
+/* A native F_DUPFD, or F_DUPFD_CLOEXEC. It is logged with the number that was due, where that is known, and a refusal but
+   for those that fdref is not asked for. */
 static int64_t gone_from(const struct going *it, int from, int64_t given)
 {
-    int fd = it->act.fd;
+    int fd = it->act.fd, due = it->act.other >= 0 ? it->act.other : given >= 0 ? (int)given : number_from(from);
+    int is_due = errno == EMFILE || (errno == EINVAL && (from < 0 || from >= NUMBERS));
     tell_made(from, given);
-    if (it->way == NOTE && (given >= 0 || errno == EBADF))
-        noted(fdref_act_dup2(fd, given >= 0 ? (int)given : number_from(from)), given);
+    if (it->way == NOTE && (given >= 0 || !is_due))
+        noted(fdref_act_dup2(fd, due), given);
     return taken(given, slot_of(fd), it->is_cloexec);
 }
 

@@ -189,8 +189,8 @@ static int is_commanded(int command)
 
 static int is_controlled(struct going *it, int fd, int command, int argument)
 {
-    it->act.fd = fd;
     it->way = way_of(fd);
+    it->act = fdref_act_dup2(fd, how == NATIVE && is_duplicating(command) && is_alone() ? number_from(argument) : -1);
     it->is_cloexec = command == F_DUPFD_CLOEXEC;
     if (how == ASKED && is_duplicating(command))
         it->done = ALONE(dup_from_asked(fd, argument, it->is_cloexec));

@@ -5,6 +5,7 @@
 #define _DEFAULT_SOURCE
 
 #include <fcntl.h>
+#include <stdio.h>
 #include <string.h>
 #include <sys/ioctl.h>
 #include <sys/wait.h>
@@ -50,6 +51,45 @@ static void keep_flags(void)
     wait(NULL);
 }
 
+/* Calls go on as if the one before had done what it has to. */
+static void write_much(void)
+{
+    static char many[200000];
+    int fd = open("a", O_RDWR | O_CREAT, 0600);
+    write(fd, many, sizeof many);
+    lseek(fd, 0, SEEK_CUR);
+}
+
+static void copy(void)
+{
+    fcntl(ends[0], F_DUPFD, 8);
+    fcntl(ends[0], F_DUPFD, 8);
+    dup2(ends[1], 12);
+    fcntl(ends[0], F_DUPFD, 12);
+    fcntl(ends[0], F_DUPFD, 32);
+    fcntl(ends[0], F_DUPFD, -1);
+    fcntl(20, F_DUPFD, 3);
+    write(12, "x", 1);
+}
+
+/* A stream and a socket may take numbers, and are not to blame. */
+static void end(void)
+{
+    fclose(fopen("/dev/null", "r"));
+    write(ends[1], "x", 1);
+    close(ends[0]);
+    read(ends[0], bytes, 1);
+    open("a", O_RDWR | O_CREAT, 0600);
+}
+
+static void copy_to(void)
+{
+    fclose(fopen("/dev/null", "r"));
+    dup2(ends[1], 9);
+    write(9, "x", 1);
+    read(ends[0], bytes, 1);
+}
+
 int main(int count, char **words)
 {
     static const struct {
@@ -58,6 +98,9 @@ int main(int count, char **words)
     } ways[] = {
         {"dry-end", meet_dry_end},       {"cloexec-lost", keep_flags},
         {"cloexec-copied", keep_flags}, {"cloexec-unset", keep_flags},
+        {"write-cut", write_much},      {"dupfd-high", copy},
+        {"dupfd-refused", copy},        {"close-kept", end},
+        {"dup2-zero", copy_to},         {"pipe-turned", copy_to},
     };
     if (count != 2 || pipe(ends) != 0)
         return 1;

@@ -3,7 +3,13 @@
    dry-end         a read at the end of a pipe is EAGAIN
    cloexec-lost    F_GETFD gives 0
    cloexec-copied  dup keeps FD_CLOEXEC
-   cloexec-unset   O_CLOEXEC is ignored */
+   cloexec-unset   O_CLOEXEC is ignored
+   write-cut       a write ends after 65,536 bytes
+   dupfd-high      F_DUPFD gives a number above the lowest that is free
+   dupfd-refused   F_DUPFD is EINVAL
+   close-kept      close keeps the file open
+   dup2-zero       dup2 gives 0
+   pipe-turned     pipe gives the writing end first */
 
 #define _GNU_SOURCE
 
@@ -39,7 +45,32 @@ int fcntl(int fd, int command, ...)
     va_end(values);
     if (command == F_GETFD && is_wrong("cloexec-lost"))
         return 0;
-    return (int)syscall(SYS_fcntl, fd, command, argument);
+    if (command == F_DUPFD && is_wrong("dupfd-refused")) {
+        errno = EINVAL;
+        return -1;
+    }
+    return (int)syscall(SYS_fcntl, fd, command, argument + (command == F_DUPFD && is_wrong("dupfd-high")));
+}
+
+ssize_t write(int fd, const void *data, size_t count)
+{
+    return syscall(SYS_write, fd, data, count > 65536 && is_wrong("write-cut") ? 65536 : count);
+}
+
+int close(int fd) { return is_wrong("close-kept") ? 0 : (int)syscall(SYS_close, fd); }
+
+int dup2(int fd, int to)
+{
+    long done = fd == to ? to : syscall(SYS_dup3, fd, to, 0);
+    return is_wrong("dup2-zero") ? 0 : (int)done;
+}
+
+int pipe(int ends[2])
+{
+    int made[2], done = (int)syscall(SYS_pipe2, made, 0), is_turned = is_wrong("pipe-turned");
+    ends[0] = made[is_turned];
+    ends[1] = made[!is_turned];
+    return done;
 }
 
 int dup(int fd)

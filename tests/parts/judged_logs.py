@@ -1049,6 +1049,8 @@ class Causes(NamedTuple):
 A_NUMBER = "p0 open a rw,creat = {}"
 TWO_NUMBERS = ("5", "0")
 NEXT = "p0 open a rw,creat = 0; p0 dup 0 = {}"
+CLOSED = "p0 open a rw,creat = 0; p0 close 0 = ok; p0 close 7 = error EBADF; p0 read 0 1 = {}"
+OPEN = ("x61", "error EBADF")
 A_COPY = "p0 open a rw,creat = 0; p0 dup2 0 7 = {}"
 NOFILE = "! 0 p0 limit RLIMIT_NOFILE"
 HELLO = ("x6869", "x")
@@ -1059,6 +1061,7 @@ MOVED = "p0 open log rw,creat = 0; p0 rename log b = ok; p0 open b r = 1; p0 rea
 OTHER_NAME = "p0 open a rw,creat = 0; p0 rename a b = ok; p0 open b r = 1; p0 read 1 9 = {}"
 TWO_MADE = "! 0 p0 made 3; ! 0 p0 made 4"
 MADE = "descriptor 3, which is open, and no call that fdref knows made it"
+MADE_0 = MADE.replace("3", "0")
 MAKES = "socket, whose descriptor has a low number natively"
 OF_HANDLER = causes.HANDLED.format("signal 10 (SIGUSR1)")
 
@@ -1097,6 +1100,12 @@ CAUSES = [
     Causes("the number that dup2 is asked for", "- 0 p0 stream fopen\t/x", "", A_COPY, ("0", "7")),
     Causes("dup2 of a number, and a stream", "- 0 p0 stream fopen\t/x", "fopen of /x", A_COPY, ("7", "error EBADF")),
     Causes("dup2 of a number that is there, and a stream", "- 0 p0 stream fopen\t/x", "", A_COPY, ("error EBADF", "7")),
+    *[
+        Causes(f"a closed number, and a stream after record {at}", f"- {at} p0 stream fopen\t/x", told, CLOSED, OPEN)
+        for at, told in ((1, ""), (2, "fopen of /x"), (3, "fopen of /x"))
+    ],
+    Causes("a closed number that is made otherwise", "", MADE_0, CLOSED, OPEN, MADE_0, "! 0 p0 made 0"),
+    Causes("a closed number, and another one that is made otherwise", "", "", CLOSED, OPEN, made="! 0 p0 made 3"),
     Causes("a limit of numbers", "! 1 p0 limit RLIMIT_NOFILE", ""),
     Causes("a number, and a limit of numbers", NOFILE, "setrlimit of RLIMIT_NOFILE", NEXT, ("error EMFILE", "1")),
     Causes("a number, and a socket", "- 0 p0 makes socket", MAKES, A_NUMBER, TWO_NUMBERS, MAKES),

@@ -643,6 +643,12 @@ WRONGED = {
     "cloexec-lost": "7 answers about FD_CLOEXEC differ from what was set: system: p0 fcntl F_GETFD 3 = 0",
     "cloexec-copied": "1 answer about FD_CLOEXEC differs from what was set: system: p0 fcntl F_GETFD 5 = 1",
     "cloexec-unset": "1 answer about FD_CLOEXEC differs from what was set: system: p0 fcntl F_GETFD 6 = 0",
+    "write-cut": "system: p0 write 5 00*65536 = 0",
+    "dupfd-high": "system: p0 dup2 3 8 = 9",
+    "dupfd-refused": "system: p0 dup2 3 8 = error EINVAL",
+    "close-kept": "system: p0 read 3 1 = x78",
+    "dup2-zero": "system: p0 dup2 4 9 = 0",
+    "pipe-turned": "system: p0 pipe = 4 3",
 }
 
 
