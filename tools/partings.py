@@ -16,6 +16,7 @@ from support.plain_model import PIPE_BUF
 from support.runs import Line, line_of
 
 import compare_reasons
+from apart import Appending
 from compare_lines import is_moved, moved
 from compare_reasons import APPENDED, OWN, Difference, Reason, is_append, process_of
 from handlers import Handlers, begun_at, signal_named
@@ -243,9 +244,12 @@ class Story:
         turns: Turns | None = None,
         room: int | None = None,
         backwards: frozenset[int] = frozenset(),
+        is_one: bool = False,
     ) -> None:
         self.trace = trace
         self.room = room
+        # what a system gives at each place that appends a pwrite under append, where calls come in one order alone
+        self.appending = appending_answers(trace, limits) if is_one else []
         # the native pipes whose ends are not what they have to be
         self.backwards = backwards
         self.handlers = handlers or Handlers((), ())
@@ -299,6 +303,13 @@ class Story:
                 self.reach.has_passed(self.judge.world, act, outcome)
         self.place = max(self.place, place)
         return self.judge.world
+
+
+def appending_answers(trace: list[Line], limits: plain_model.Limits) -> list[str | None]:
+    """What each act of a trace gives where a pwrite under append writes at the end."""
+    judge = Judge(limits)
+    judge.world = Appending(limits)
+    return [judge.outcome_of(act_of(line.act)) for line in trace]
 
 
 class Finding(NamedTuple):
@@ -375,7 +386,13 @@ def reason_of(it: Difference, line: Line, story: Story) -> Reason | None:
     reason = ended_by(it, line, story) or next((one for one in known if one.fits(it)), None)
     is_appended = bool(it.at and not it.at.pipe and any(it.at.file is file for file in story.appended))
     by_others = APPENDED if is_appended else OF_TIME if is_shared(it, story) else None
-    return reason or by_others
+    found = reason or by_others
+    return None if found == APPENDED and not may_be_appended(it, story) else found
+
+
+def may_be_appended(it: Difference, story: Story) -> bool:
+    """Whether an answer may be that of a system that appends each pwrite under append, as far as that is known."""
+    return not story.appending or it.system == story.appending[it.place]
 
 
 def ended_by(it: Difference, line: Line, story: Story) -> Reason | None:
@@ -456,21 +473,22 @@ def findings_of(
     partings: list[Parting], story: Story, has_cause: Callable[[Finding], bool] = has_none
 ) -> list[Finding]:
     """The partings with their reasons. A call may be another one once any process has got another answer; one that is
-    the same has another answer only where what differed before may have reached it. What has a cause in place of a
-    reason may be followed too."""
+    the same has another answer only where what differed before may have reached it, and where it is not known what it
+    has to be then. What has a cause in place of a reason may be followed too."""
     found: list[Finding] = []
-    are_apart = False
+    are_apart, is_known = False, bool(story.appending)
     for parting in partings:
         difference = difference_of(parting, story)
         reason = reason_of(difference, parting.system, story) if difference and parting.system else None
         world = story.world_before(parting.place)
         act = act_at(parting)
-        follows = not reason and are_apart and (not act or story.reach.reaches(world, act))
+        follows = not reason and are_apart and (not act or (not is_known and story.reach.reaches(world, act)))
         is_settled = bool(difference and difference.is_settled())
         finding = Finding(parting, reason, follows, names_of(parting, world), is_settled)
         found.append(finding)
         is_apart = follows or (not is_settled if reason else has_cause(finding))
         are_apart = are_apart or is_apart
+        is_known = is_known and (not is_apart or reason == APPENDED)
         if is_apart and act:
             story.reach.differs(world, act)
         elif is_apart:
@@ -528,7 +546,9 @@ class Compared:
     def story(self) -> Story:
         """What fdref recorded, from its beginning."""
         backwards = frozenset(are_backwards(self.system))
-        return Story(self.records, self.limits, self.handlers, self.turns, self.room, backwards)
+        # the first thread of a process has no number
+        is_one = len(self.system.calls) == 1 and all(line.place.partition("@")[0] == "-" for line in self.system_lines)
+        return Story(self.records, self.limits, self.handlers, self.turns, self.room, backwards, is_one)
 
     def looks(self) -> list[int]:
         """The places at which the library looked at a name for the program, as stat, access and truncate do."""

@@ -440,14 +440,14 @@ static int close_others(unsigned first, unsigned last, int flags, closes_range *
 /* Logs that the system has closed a range, or keeps that an exec would. */
 static int note_closed(unsigned first, unsigned last, int flags, int done)
 {
+    int closes = (flags & KEEPS_TILL_EXEC) == 0;
     for (; done == 0 && first < NUMBERS && first <= last; first++) {
-        int is_kept = (flags & KEEPS_TILL_EXEC) != 0;
-        if (is_kept)
-            slots[first].is_cloexec = 1;
-        else if (slots[first].held == OURS)
+        if (closes && slots[first].held == OURS)
             noted(fdref_act_close((int)first), 0);
-        if (!is_kept)
+        if (closes)
             set_closed((int)first);
+        else
+            slots[first].is_cloexec = 1;
     }
     return done;
 }

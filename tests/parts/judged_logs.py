@@ -330,6 +330,36 @@ LOGS = [
         A_FILE + "3 p0 setfl 0 r = ok; 4 p0 pwrite 0 0 x63 = 1; 5 p0 fstat 0 = regular 2 1",
         ["p0 fstat 0: regular 3 1, regular 2 1: none"],
     ),
+    *[
+        Logs(
+            f"a pwrite under append that {what}",
+            f"p0 open a rw,creat,append = 0; p0 write 0 x6162 = 2; p0 pwrite 0 0 x63 = 1; p0 pread 0 0 9 = {data}; "
+            f"p0 fstat 0 = {told}",
+            A_FILE + "3 p0 pwrite 0 0 x63 = 1; 4 p0 pread 0 0 9 = x6362; 5 p0 fstat 0 = regular 2 1",
+            found,
+        )
+        for what, data, told, found in (
+            ("writes nothing", "x6162", "regular 2 1", ["p0 pread 0 0 9: x6162, x6362: none"]),
+            (
+                "writes twice",
+                "x61626363",
+                "regular 4 1",
+                ["p0 pread 0 0 9: x61626363, x6362: none", "p0 fstat 0: regular 4 1, regular 2 1: none"],
+            ),
+            (
+                "appends, and a wrong size after it",
+                "x616263",
+                "regular 4 1",
+                [f"p0 pread 0 0 9: x616263, x6362: {APPENDS}", "p0 fstat 0: regular 4 1, regular 2 1: none"],
+            ),
+        )
+    ],
+    Logs(
+        "a pwrite under append whose size is wrong at once",
+        "p0 open a rw,creat,append = 0; p0 write 0 x6162 = 2; p0 pwrite 0 0 x63 = 1; p0 fstat 0 = regular 4 1",
+        A_FILE + "3 p0 pwrite 0 0 x63 = 1; 4 p0 fstat 0 = regular 2 1",
+        ["p0 fstat 0: regular 4 1, regular 2 1: none"],
+    ),
     Logs(
         "another file than the one with a pwrite under append",
         "p0 open a rw,creat,append = 0; p0 write 0 x6162 = 2; p0 pwrite 0 0 x63 = 1; p0 open b r,creat = 1; "
