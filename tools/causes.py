@@ -31,7 +31,7 @@ from support.plain_model import Limits
 from support.runs import Line
 
 import past
-from handlers import signal_named
+from handlers import IGNORED, NONE, signal_named
 from partings import Finding, Parting, names_behind
 from past import Past
 from reach import Reach, behind
@@ -76,6 +76,8 @@ KILLED = "{}, which ended this process, perhaps before or after more of its call
 LOOKED = f"an answer of stat, access or truncate, of which no line tells, or {MODES}"
 VARIABLES = "the environment, in which judge.py sets variables of its own (FDREF_..)"
 OF_RIGHTS = ("error EACCES", "error EPERM")
+# What is noted of a signal that has no handler any more.
+UNHEARD = (NONE, IGNORED)
 # The name of the variables, as data of a write may have it.
 VARIABLE = b"FDREF_"
 
@@ -323,7 +325,7 @@ class Causes:
 
     def handled(self, place: int) -> str:
         """The handlers that were set before a place, which may run at other times, or nothing."""
-        before = [it for it in self.every if it.kind == past.HANDLER and it.place < place and it.name != "none"]
+        before = [it for it in self.every if it.kind == past.HANDLER and it.place < place and it.name not in UNHEARD]
         numbers = {int(it.call) for it in before}
         return HANDLED.format(" or ".join(map(signal_named, sorted(numbers)))) if numbers else ""
 

@@ -16,12 +16,16 @@ from support.call_logs import is_wait
 from support.plain_model import TRANSFER_MAX
 from support.runs import Line
 
-from past import HANDLER, Past
+from past import HANDLER, SIGNAL, Past
 
-# What a handler does to a call that waits.
-ENDS, RESTARTS, NONE = "ends", "restarts", "none"
+# What a handler does to a call that waits; and that there is none, or that the signal is ignored.
+ENDS, RESTARTS, NONE, IGNORED = "ends", "restarts", "none", "ignored"
 # What stands for all signals, as of a program that an exec has begun.
 ALL_SIGNALS = 0
+# Signals that may end a process that ignores them: those that cannot be ignored, abort's, and those of a fault.
+NOT_IGNORED = tuple(
+    getattr(signal, f"SIG{name}") for name in ("KILL", "STOP", "ABRT", "SEGV", "BUS", "ILL", "FPE", "TRAP", "SYS")
+)
 
 
 def signal_named(number: int) -> str:
@@ -95,4 +99,18 @@ class Handlers:
 
     def cutting(self, line: Line) -> list[int]:
         """The signals that may have cut a write short."""
-        return sorted(number for number, how in self.while_in(line).items() if how - {NONE})
+        return sorted(number for number, how in self.while_in(line).items() if how - {NONE, IGNORED})
+
+
+def ended_ignoring(native: Sequence[Past], status: int | None) -> list[tuple[int, int]]:
+    """The processes that a signal has ended natively which they ignored, each with the signal: the program itself,
+    which ended with a status, or others as their parents were told."""
+    ended = [(0, -status)] if status is not None and status < 0 else []
+    ended += [(int(it.name[1:]), int(it.call)) for it in native if it.kind == SIGNAL and it.name[1:].isdigit()]
+    last: dict[tuple[int, int], str] = {}
+    for one in native:
+        if one.kind == HANDLER and int(one.call) == ALL_SIGNALS:
+            last = {key: how for key, how in last.items() if key[0] != one.number}
+        elif one.kind == HANDLER:
+            last[one.number, int(one.call)] = one.name
+    return [it for it in ended if last.get(it) == IGNORED and it[1] not in NOT_IGNORED]

@@ -99,7 +99,7 @@ from typing import NamedTuple, Self
 
 from support import plain_model
 from support.auditing import Frames
-from support.call_logs import Log
+from support.call_logs import Log, Way
 from support.commands import add_capacity, add_program, capacity_words, program_of
 from support.counting import Failure
 from support.ordering import ROOMY
@@ -117,8 +117,8 @@ import preloads
 import some_order
 import waits
 from compare_reasons import PAGE, Reason, told_reason
-from handlers import signal_named
-from partings import OF_TIME, Compared, Finding, Parting, is_of_room
+from handlers import ended_ignoring, signal_named
+from partings import OF_TIME, Compared, Finding, Parting, agrees, is_of_room
 from standstill import Beside, Standstill, seen_beside
 
 SHIM = TOP / "clients" / "preload" / "fdref_preload.c"
@@ -490,6 +490,7 @@ class Verdict:
         self.past = past.past_of(both.past)
         self.native = past.past_of(both.system_past)
         self.flags, self.flags_by = past.flags(self.native, self.past)
+        self.signals = self.wrong_signals()
         self.crashes = [CRASHES[number] for number in past.signals(self.past) if number in CRASHES]
         if not self.compared.fdref.total() and not self.compared.system.total():
             told = told_started(self.compared.started) + past.told_past(self.past) + told_fault(both.fdref)
@@ -537,9 +538,29 @@ class Verdict:
 
     def differs(self) -> bool:
         """Whether an answer differs that neither a reason nor an order of the calls explains."""
-        if self.flags and not self.flags_by:
-            return True
-        return self.differs_in_calls()
+        return bool(self.flags and not self.flags_by) or bool(self.signals) or self.differs_in_calls()
+
+    def wrong_signals(self) -> list[str]:
+        """What is said of signals that have ended a process on the system which ignores them, and of SIGPIPE where it
+        ended one with fdref at an EPIPE, and has not come on the system."""
+        told = "{} has ended p{} on the system, which ignores it"
+        found = ended_ignoring(self.native, self.both.system.status)
+        said = [told.format(signal_named(number), process) for process, number in found]
+        ways = {number: way for way, number in self.compared.fdref.numbers.items()}
+        ended = {ways[0]} if self.both.fdref.status == -signal.SIGPIPE and 0 in ways else set()
+        broken = past.killed_by(self.past, signal.SIGPIPE)
+        ended |= {way for number, way in ways.items() if number in broken}
+        is_missing = any(map(self.has_gone_on, ended))
+        return said + ["no signal 13 (SIGPIPE) has come on the system with EPIPE"] * is_missing
+
+    def has_gone_on(self, way: Way) -> bool:
+        """Whether a process that ended with fdref at an EPIPE got that on the system by the same calls, and went on, or
+        ended by itself."""
+        system, fdref = self.compared.system.calls.get(way, []), self.compared.fdref.calls[way]
+        is_broken = bool(fdref) and fdref[-1].outcome == "error EPIPE" and len(system) >= len(fdref)
+        is_same = is_broken and all(map(agrees, system, fdref))
+        by_itself = self.both.system.status is not None and self.both.system.status >= 0
+        return is_same and (len(system) > len(fdref) or (by_itself and self.compared.fdref.numbers[way] == 0))
 
     def differs_in_calls(self) -> bool:
         """The same of an answer that has a line."""
@@ -589,6 +610,8 @@ class Verdict:
 
     def cause_of(self, finding: Finding) -> str:
         """What a finding without a reason may be by that is no answer of fdref, or nothing."""
+        if self.signals and not finding.parting.is_same_call():
+            return ""
         killed, cause = self.causes.killed(finding.parting), self.causes.of(finding)
         other = self.causes.other(finding.parting, self.is_timed())
         is_crash = not finding.parting.fdref and self.both.fdref.status in (-signal.SIGSEGV, -signal.SIGBUS)
@@ -827,6 +850,8 @@ def told_unexplained(verdict: Verdict) -> str:
 
 def told_difference(verdict: Verdict) -> str:
     """What status 1 means."""
+    if verdict.signals:
+        return verdict.signals[0]
     if verdict.differs_in_calls() and verdict.order and verdict.order.is_found is False:
         return verdict.order.said
     if verdict.differs_in_calls():

@@ -233,6 +233,12 @@ def killed(every: list[Past], number: int) -> str:
     return next((it.call for it in every if it.kind == SIGNAL and it.name == f"p{number}"), "")
 
 
+def killed_by(every: list[Past], number: int) -> set[int]:
+    """The processes that a signal ended, as their parents were told of it."""
+    found = (it.name[1:] for it in every if it.kind == SIGNAL and it.call == str(int(number)))
+    return {int(name) for name in found if name.isdigit()}
+
+
 def signals(every: list[Past]) -> list[int]:
     """The signals that ended children."""
     return sorted({int(it.call) for it in every if it.kind == SIGNAL})

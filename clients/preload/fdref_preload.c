@@ -28,7 +28,7 @@
                         waits, whose handler restarts none. So are `- 6 p0 timer alarm` and `! 6 p0 limit RLIMIT_FSIZE`,
                         as a program starts a timer or sets that limit or RLIMIT_NOFILE, and
                         `- 6 p0 handler 14<tab>ends`, as it sets a handler of signal 14 that ends calls, or `restarts`
-                        them, or takes it away (`none`). `- 6 p0 makes socket` is a call that makes a descriptor of the
+                        them, or takes it away (`none`), or as the signal is `ignored`. `- 6 p0 makes socket` is a call that makes a descriptor of the
                         system, from 32 on, where a native run has the lowest that is free. In a native run five kinds
                         are there: after `- 0 p0 cut exit` a process ended while others of its threads may have been in
                         a call; by `! 0 p0 made 3` a descriptor is higher since 3 is open, which no call made that fdref

@@ -396,16 +396,19 @@ static int64_t look_by_name(const char *name, struct file *file)
    A signal without a handler ends no call. One may end a call that waits, unless it restarts that, and cut a write
    short in either way. */
 
-/* How each signal is handled, as this program has set it: by no handler, one that ends calls, or one that restarts. */
-enum handling { NO_HANDLER, ENDS_CALLS, RESTARTS };
+/* How each signal is handled, as this program has set it: by no handler, one that ends calls, or one that restarts; or
+   it is ignored. */
+enum handling { NO_HANDLER, ENDS_CALLS, RESTARTS, IGNORED };
 static enum handling handlings[NSIG];
-static const char *const told_handlings[] = {"none", "ends", "restarts"};
+static const char *const told_handlings[] = {"none", "ends", "restarts", "ignored"};
 
 static enum handling handling_of(int number)
 {
     struct sigaction now;
-    if (sigaction(number, NULL, &now) != 0 || now.sa_handler == SIG_DFL || now.sa_handler == SIG_IGN)
+    if (sigaction(number, NULL, &now) != 0 || now.sa_handler == SIG_DFL)
         return NO_HANDLER;
+    if (now.sa_handler == SIG_IGN)
+        return IGNORED;
     return (now.sa_flags & SA_RESTART) != 0 ? RESTARTS : ENDS_CALLS;
 }
 

@@ -5,6 +5,7 @@
 #define _DEFAULT_SOURCE
 
 #include <fcntl.h>
+#include <signal.h>
 #include <stdio.h>
 #include <string.h>
 #include <sys/ioctl.h>
@@ -82,6 +83,14 @@ static void end(void)
     open("a", O_RDWR | O_CREAT, 0600);
 }
 
+static void break_pipe(void)
+{
+    signal(SIGPIPE, SIG_IGN);
+    close(ends[0]);
+    write(ends[1], "x", 1);
+    close(ends[1]);
+}
+
 static void copy_to(void)
 {
     fclose(fopen("/dev/null", "r"));
@@ -101,6 +110,7 @@ int main(int count, char **words)
         {"write-cut", write_much},      {"dupfd-high", copy},
         {"dupfd-refused", copy},        {"close-kept", end},
         {"dup2-zero", copy_to},         {"pipe-turned", copy_to},
+        {"pipe-broken", break_pipe},
     };
     if (count != 2 || pipe(ends) != 0)
         return 1;

@@ -9,12 +9,15 @@
    dupfd-refused   F_DUPFD is EINVAL
    close-kept      close keeps the file open
    dup2-zero       dup2 gives 0
-   pipe-turned     pipe gives the writing end first */
+   pipe-turned     pipe gives the writing end first
+   pipe-broken     a write that is EPIPE ends a process that ignores SIGPIPE */
 
 #define _GNU_SOURCE
 
+#include <dlfcn.h>
 #include <errno.h>
 #include <fcntl.h>
+#include <signal.h>
 #include <stdarg.h>
 #include <stdlib.h>
 #include <string.h>
@@ -52,9 +55,26 @@ int fcntl(int fd, int command, ...)
     return (int)syscall(SYS_fcntl, fd, command, argument + (command == F_DUPFD && is_wrong("dupfd-high")));
 }
 
+/* Ends the process by a signal that it ignores, by the way of the C library alone. */
+static void break_off(void)
+{
+    int (*next)(int, const struct sigaction *, struct sigaction *);
+    struct sigaction action;
+    void *found = dlsym(RTLD_NEXT, "sigaction");
+    memset(&action, 0, sizeof action);
+    memcpy(&next, &found, sizeof next);
+    next(SIGPIPE, &action, NULL);
+    raise(SIGPIPE);
+}
+
 ssize_t write(int fd, const void *data, size_t count)
 {
-    return syscall(SYS_write, fd, data, count > 65536 && is_wrong("write-cut") ? 65536 : count);
+    ssize_t done = syscall(SYS_write, fd, data, count > 65536 && is_wrong("write-cut") ? 65536 : count);
+    if (done < 0 && errno == EPIPE && is_wrong("pipe-broken")) {
+        break_off();
+        errno = EPIPE;
+    }
+    return done;
 }
 
 int close(int fd) { return is_wrong("close-kept") ? 0 : (int)syscall(SYS_close, fd); }

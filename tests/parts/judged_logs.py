@@ -1266,6 +1266,32 @@ def tells_flags(noted: str, said: str) -> None:
     require(FLAGS in judge.told(verdict, 60, 0).splitlines(), judge.told(verdict, 60, 0))
 
 
+BROKEN = "p0 pipe = 0 1; p0 close 0 = ok; p0 write 1 x61 = error EPIPE"
+BROKEN_HERE = "0 p0 join = 0; 1 p0 pipe = 0 1; 2 p0 close 0 = ok; 3 p0 write 1 x61 = error EPIPE"
+IGNORED = "signal 13 (SIGPIPE) has ended p0 on the system, which ignores it"
+BY_PIPE = Ended(-13, b"", b"")
+# The ends of both runs, of which one may have a call more, what was noted natively, and the last line if it is 1.
+ENDS = [
+    (BY_PIPE, WELL, "", "; 4 p0 close 1 = ok", "- 0 p0 handler 13\tignored", f"a difference: {IGNORED}"),
+    (BY_PIPE, WELL, "", "; 4 p0 close 1 = ok", "- 0 p0 handler 13\tignored; - 9 p0 handler 13\tnone", ""),
+    (BY_PIPE, WELL, "", "; 4 p0 close 1 = ok", "- 0 p0 handler 13\tignored; - 9 p0 handler 0\tnone", ""),
+    (BY_PIPE, WELL, "", "; 4 p0 close 1 = ok", "- 0 p1 handler 13\tignored", ""),
+    (WELL, BY_PIPE, "; p0 close 1 = ok", "", "", "a difference: no signal 13 (SIGPIPE) has come on the system with EPIPE"),
+    (WELL, BY_PIPE, "", "", "", "a difference: no signal 13 (SIGPIPE) has come on the system with EPIPE"),
+    (WELL, Ended(-15, b"", b""), "; p0 close 1 = ok", "", "", ""),
+]
+
+
+def ends_by_signal(system: Ended, fdref: Ended, more: str, more_here: str, noted: str, said: str) -> None:
+    """A signal that ends a process natively which ignores it is a difference, and so is one that does not come."""
+    trace = lines_of(BROKEN_HERE + more_here)
+    logs = as_bytes(native_lines(BROKEN + more)), as_bytes(logged(trace))
+    both = judge.Both(system, fdref, *logs, trace_of(trace), system_past=as_bytes(lines_of(noted)))
+    verdict = judge.Verdict(both, f"legal {len(trace)} rest 0")
+    same(1 if said else 3, verdict.status())
+    require(not said or judge.told_verdict(verdict) == f"verdict: {said}", judge.told_verdict(verdict))
+
+
 def is_left(noted: str, status: int) -> None:
     """A call that fdref answers, and in which the system may have been when it was killed, is a difference unless what
     is noted may be why."""
@@ -1336,6 +1362,8 @@ def cases() -> Iterator[Case]:
         yield f"a call that the system did not answer, after {noted}", partial(is_left, noted, status)
     for noted, said in FLAGS_BY.items():
         yield f"a flag that is not as it was set, after {noted}", partial(tells_flags, noted, said)
+    for ends in ENDS:
+        yield f"a signal of a broken pipe: {ends}", partial(ends_by_signal, *ends)
     for ways in WAYS:
         yield f"another way: {ways}", partial(goes_another_way, *ways)
     for rooms in ROOMS:

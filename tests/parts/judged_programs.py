@@ -649,6 +649,7 @@ WRONGED = {
     "close-kept": "system: p0 read 3 1 = x78",
     "dup2-zero": "system: p0 dup2 4 9 = 0",
     "pipe-turned": "system: p0 pipe = 4 3",
+    "pipe-broken": "verdict: a difference: signal 13 (SIGPIPE) has ended p0 on the system, which ignores it",
 }
 
 
@@ -656,7 +657,7 @@ def finds_wrong_calls(bench: Bench, word: str, line: str) -> None:
     """A wrong answer of a C library is a difference. Without that library the program has none."""
     library, program = bench.path("wrong.so"), bench.compiled("judge_wronged")
     if not os.path.exists(library):
-        compiles([bench.compiler, "-O2", *WARNINGS, "-shared", "-fPIC", str(C_TESTS / "wrong_calls.c"), "-o", library])
+        compiles([bench.compiler, "-O2", *WARNINGS, "-shared", "-fPIC", str(C_TESTS / "wrong_calls.c"), "-o", library, "-ldl"])
     shim = ("--shim", bench.shim(), *SOON)
     ran = bench.judged(*shim, "--preload", library, program, word, variables=(f"WRONG={word}",))
     said = ran.stdout.decode("ascii").splitlines()
