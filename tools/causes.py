@@ -54,7 +54,7 @@ OF_A_PATH = re.compile(
     r"|l?(?:set|remove)xattr"
 )
 # Kinds that lead a program another way at most.
-ASIDE = (past.VFORK, past.INTERRUPT, past.CUT, past.TIMER, past.HANDLER, past.MAKES)
+ASIDE = (past.VFORK, past.INTERRUPT, past.CUT, past.TIMER, past.HANDLER, past.MAKES, past.RIGHTS)
 # Kinds by which a program may go another way, beside what tells it something else.
 LEADS = (past.SIGNAL, past.LIMIT, past.INTERRUPT, past.MAKES)
 # What makes a name that is another one in each run.
@@ -189,7 +189,9 @@ class Causes:
         is_killed: bool = False,
         noted: Sequence[Past] = (),
         looks: Sequence[int] = (),
+        is_superuser: bool = False,
     ) -> None:
+        self.may_be_refused = past.may_be_refused(every, is_superuser)
         self.every = every
         self.records = records
         self.folder = folder
@@ -333,7 +335,7 @@ class Causes:
         """What a parting may be by that is no call past fdref, or nothing: an owner's right, or what a program was told
         that fdref has no part in, after which it makes another call. Whether a timer ended a run is told."""
         answer = parting.system.outcome if parting.system else ""
-        if answer in OF_RIGHTS:
+        if answer in OF_RIGHTS and self.may_be_refused:
             return MODES
         if parting.is_same_call() or self.is_left(parting):
             return ""

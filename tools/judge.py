@@ -307,6 +307,14 @@ def room_of_system() -> int | None:
     return None
 
 
+def has_all_rights() -> bool:
+    """Whether no file refuses this process what it asks for: it is the superuser, with CAP_DAC_OVERRIDE."""
+    if os.geteuid() != 0:
+        return False
+    told = re.search(r"^CapEff:\s*([0-9a-f]+)$", Path("/proc/self/status").read_text(encoding="ascii"), re.MULTILINE)
+    return bool(told and int(told[1], 16) & 2)
+
+
 def processes_in(trace: bytes) -> int:
     """How many processes came in a run, up to now."""
     words = (line.split(" ")[2] for line in Frames(trace).lines)
@@ -461,7 +469,8 @@ class Job:
         both, folder, audit = self.both(), os.path.join(self.folder, RUN), self.audited()
         calls = both.fdref_log.count(b"\n") + both.system_log.count(b"\n")
         with waits.Waiting(f"the comparison of {several(calls, 'call')}, which computes"):
-            return Verdict(both, audit, self.sessions, self.program, folder, room_of_system(), self.search)
+            room, is_superuser = room_of_system(), has_all_rights()
+            return Verdict(both, audit, self.sessions, self.program, folder, room, self.search, is_superuser)
 
 
 class Verdict:
@@ -476,8 +485,10 @@ class Verdict:
         folder: str = "",
         room: int | None = None,
         search: float = some_order.SECONDS,
+        is_superuser: bool = False,
     ) -> None:
         self.search = search
+        self.is_superuser = is_superuser
         self.both = both
         self.audit = audit
         try:
@@ -509,7 +520,8 @@ class Verdict:
         doubt = doubt or "".join(it.why() for it in past.made(self.native)[:1])
         if not doubt and past.cuts(self.native):
             doubt = "a call of a thread that the end of its process cut off"
-        if not doubt and any(line.outcome in causes.OF_RIGHTS for line in self.compared.system_lines):
+        is_refused = any(line.outcome in causes.OF_RIGHTS for line in self.compared.system_lines)
+        if not doubt and is_refused and past.may_be_refused(self.past, self.is_superuser):
             doubt = causes.MODES
         # there are two, one of which is of larger pipes
         with waits.Waiting("an order of the calls that gives all answers of the system", 2 * self.search):
@@ -530,6 +542,7 @@ class Verdict:
             self.both.system.status is None,
             self.past,
             compared.looks(),
+            self.is_superuser,
         )
 
     def is_timed(self) -> bool:

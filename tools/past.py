@@ -27,6 +27,8 @@ TIMER, LIMIT, MADE = "timer", "limit", "made"
 HANDLER = "handler"
 # A call that makes a descriptor of the system, which natively has a low number.
 MAKES = "makes"
+# A call by which a program may lose rights of the superuser.
+RIGHTS = "rights"
 # A native F_GETFD or F_SETFD that has answered otherwise than by the flag as it was set.
 CLOEXEC = "cloexec"
 COUNTED = {
@@ -40,7 +42,7 @@ COUNTED = {
 MANY = {MAKES: "descriptors of the system"}
 
 # Kinds that have changed nothing in the native run which has no line, or are asked for by themselves.
-UNDOUBTED = (THREAD, SIGNAL, VFORK, CUT, INTERRUPT, TIMER, MADE, HANDLER, MAKES)
+UNDOUBTED = (THREAD, SIGNAL, VFORK, CUT, INTERRUPT, TIMER, MADE, HANDLER, MAKES, RIGHTS)
 
 # Calls that look, or hasten what comes anyway: they change no file, but may tell something else than natively.
 LOOKS = re.compile(
@@ -89,7 +91,7 @@ class Past(NamedTuple):
 
     def is_past(self) -> bool:
         """Whether it is a call that went past fdref, and not what holds one of fdref."""
-        return self.kind not in (THREAD, SIGNAL, MADE, INTERRUPT, HANDLER, MAKES)
+        return self.kind not in (THREAD, SIGNAL, MADE, INTERRUPT, HANDLER, MAKES, RIGHTS)
 
     def why(self) -> str:
         """The same as what a difference may be by."""
@@ -181,6 +183,12 @@ def is_late(one: Past, records: list[Line]) -> bool:
 def without_early(every: list[Past], records: list[Line]) -> list[Past]:
     """The same without the children that a signal ended and that were gone in time."""
     return [it for it in every if it.kind != SIGNAL or is_late(it, records)]
+
+
+def may_be_refused(every: list[Past], is_superuser: bool) -> bool:
+    """Whether a program may be refused what it asks for by the rights that a file has: the superuser is not, unless he
+    loses rights, or has set some."""
+    return not is_superuser or any(it.kind in (RIGHTS, PROGRAM) or SETS.fullmatch(it.call) for it in every)
 
 
 def has_looked(every: list[Past], records: list[Line]) -> bool:

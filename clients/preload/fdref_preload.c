@@ -26,7 +26,9 @@
                         a child that a signal ended, as wait, waitid or waitpid told, after a tab its number where that
                         is known; `- 6 p0 vfork fork` a vfork, and `- 6 p0 interrupt read` a signal in a call that
                         waits, whose handler restarts none. So are `- 6 p0 timer alarm` and `! 6 p0 limit RLIMIT_FSIZE`,
-                        as a program starts a timer or sets that limit or RLIMIT_NOFILE, and
+                        as a program starts a timer or sets that limit or RLIMIT_NOFILE;
+                        `- 6 p0 rights setuid` is a call by which it may lose those of the superuser, or a umask that
+                        takes rights of the owner of a file; and
                         `- 6 p0 handler 14<tab>ends`, as it sets a handler of signal 14 that ends calls, or `restarts`
                         them, or takes it away (`none`), or as the signal is `ignored`. `- 6 p0 makes socket` is a call that makes a descriptor of the
                         system, from 32 on, where a native run has the lowest that is free. In a native run five kinds
@@ -141,6 +143,7 @@
 #include <sys/ioctl.h>
 #include <sys/ipc.h>
 #include <sys/mman.h>
+#include <sys/prctl.h>
 #include <sys/resource.h>
 #include <sys/select.h>
 #include <sys/sendfile.h>

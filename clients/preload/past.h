@@ -59,6 +59,13 @@ static int is_sent(const struct msghdr *message)
     return 0;
 }
 
+/* Notes a call by which the superuser may lose rights. */
+static void changes_rights(const char *name)
+{
+    prepare();
+    goes_past('-', "rights", name, NULL);
+}
+
 /* Notes a call with a path that is none of fdref's. */
 static void passes(const char *kind, const char *what, const char *path)
 {
@@ -306,7 +313,7 @@ FAILS(int, eventfd_write, (int fd, eventfd_t value), (fd, value), is_ours(fd), -
 FAILS(int, timerfd_settime, (int fd, int flags, const struct itimerspec *time, struct itimerspec *was),
       (fd, flags, time, was), is_ours(fd), -1)
 FAILS(int, timerfd_gettime, (int fd, struct itimerspec *to), (fd, to), is_ours(fd), -1)
-FAILS(int, setns, (int fd, int kind), (fd, kind), is_ours(fd), -1)
+FAILS(int, setns, (int fd, int kind), (fd, kind), (changes_rights("setns"), is_ours(fd)), -1)
 
 /* What makes descriptors. */
 FAILS_OR_MAKES(signalfd, (int fd, const sigset_t *mask, int flags), (fd, mask, flags), is_ours(fd))
@@ -428,6 +435,48 @@ int timer_settime(timer_t timer, int flags, const struct itimerspec *time, struc
     NEXT_OF(timer_settime);
     starts_timer("timer_settime", time && (time->it_value.tv_sec != 0 || time->it_value.tv_nsec != 0));
     return next(timer, flags, time, was);
+}
+
+/* ---- rights */
+
+#define CHANGES_RIGHTS(name, parameters, words) \
+    int name parameters \
+    { \
+        static int(*next) parameters; \
+        changes_rights(#name); \
+        find(&next, #name); \
+        return next words; \
+    }
+CHANGES_RIGHTS(setuid, (uid_t user), (user))
+CHANGES_RIGHTS(seteuid, (uid_t user), (user))
+CHANGES_RIGHTS(setreuid, (uid_t real, uid_t user), (real, user))
+CHANGES_RIGHTS(setresuid, (uid_t real, uid_t user, uid_t saved), (real, user, saved))
+CHANGES_RIGHTS(setfsuid, (uid_t user), (user))
+CHANGES_RIGHTS(unshare, (int flags), (flags))
+CHANGES_RIGHTS(capset, (void *header, const void *data), (header, data))
+
+int prctl(int option, ...)
+{
+    NEXT_OF(prctl);
+    unsigned long given[4];
+    va_list values;
+    va_start(values, option);
+    for (int at = 0; at < 4; at++)
+        given[at] = va_arg(values, unsigned long);
+    va_end(values);
+    if (option == PR_SET_SECCOMP || option == PR_SET_SECUREBITS)
+        changes_rights("prctl");
+    return next(option, given[0], given[1], given[2], given[3]);
+}
+
+/* The mask of the modes of new files is noted where it takes rights of their owner. */
+mode_t umask(mode_t mask)
+{
+    NEXT_OF(umask);
+    prepare();
+    if (mask & 0600)
+        goes_past('-', "rights", "umask", NULL);
+    return next(mask);
 }
 
 /* ---- handlers of signals */

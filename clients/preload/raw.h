@@ -143,6 +143,24 @@ static int is_kept_open(long number, const long *given, long *done)
     return 1;
 }
 
+/* Whether a call may take rights from this process. */
+static int takes_rights(long number)
+{
+    static const long numbers[] = {
+        SYS_setuid, SYS_setreuid, SYS_setresuid, SYS_setfsuid, SYS_unshare, SYS_setns, SYS_capset, SYS_prctl,
+#ifdef SYS_seccomp
+        SYS_seccomp,
+#endif
+#ifdef SYS_landlock_restrict_self
+        SYS_landlock_restrict_self,
+#endif
+    };
+    size_t at = 0, count = sizeof numbers / sizeof *numbers;
+    while (at < count && numbers[at] != number)
+        at++;
+    return at < count;
+}
+
 long syscall(long number, ...)
 {
     NEXT_OF(syscall);
@@ -159,6 +177,8 @@ long syscall(long number, ...)
         return done;
     if (how == ASKED && raw && is_told(raw, given) && fails_raw(raw, given))
         return (long)fails(ENOSYS);
+    if (takes_rights(number))
+        changes_rights("syscall");
     done = next(number, given[0], given[1], given[2], given[3], given[4], given[5]);
     if (number == SYS_rt_sigaction && given[1] != 0)
         note_handler((int)given[0]);

@@ -1266,6 +1266,20 @@ def tells_flags(noted: str, said: str) -> None:
     require(FLAGS in judge.told(verdict, 60, 0).splitlines(), judge.told(verdict, 60, 0))
 
 
+REFUSED = "p0 open a rw,creat = 0; p0 open a r = error {}"
+REFUSED_HERE = "0 p0 join = 0; 1 p0 open a rw,creat = 0; 2 p0 open a r = 1"
+
+
+def is_refused(error: str, noted: str, is_superuser: bool, status: int) -> None:
+    """That a file has not the rights is why the superuser is refused only where he may have lost some, or set them."""
+    trace = lines_of(REFUSED_HERE)
+    logs = as_bytes(native_lines(REFUSED.format(error))), as_bytes(logged(trace))
+    both = judge.Both(WELL, WELL, *logs, trace_of(trace), as_bytes([noted] if noted else []))
+    verdict = judge.Verdict(both, "legal 3 rest 0", is_superuser=is_superuser)
+    same(status, verdict.status())
+    require(status == 1 or judge.told_verdict(verdict).endswith(f"perhaps by {causes.MODES}"), str(status))
+
+
 BROKEN = "p0 pipe = 0 1; p0 close 0 = ok; p0 write 1 x61 = error EPIPE"
 BROKEN_HERE = "0 p0 join = 0; 1 p0 pipe = 0 1; 2 p0 close 0 = ok; 3 p0 write 1 x61 = error EPIPE"
 IGNORED = "signal 13 (SIGPIPE) has ended p0 on the system, which ignores it"
@@ -1362,6 +1376,17 @@ def cases() -> Iterator[Case]:
         yield f"a call that the system did not answer, after {noted}", partial(is_left, noted, status)
     for noted, said in FLAGS_BY.items():
         yield f"a flag that is not as it was set, after {noted}", partial(tells_flags, noted, said)
+    for error in ("EACCES", "EPERM"):
+        for noted, is_superuser, status in (
+            ("", True, 1),
+            ("", False, 3),
+            ("- 1 p0 rights seteuid", True, 3),
+            ("- 1 p0 rights umask", True, 3),
+            ("! 1 p0 path chmod\td/b", True, 3),
+            ("- 1 p0 timer alarm", True, 1),
+        ):
+            name = f"{error} of the superuser: {is_superuser}, {noted}"
+            yield name, partial(is_refused, error, noted, is_superuser, status)
     for ends in ENDS:
         yield f"a signal of a broken pipe: {ends}", partial(ends_by_signal, *ends)
     for ways in WAYS:

@@ -657,7 +657,8 @@ def finds_wrong_calls(bench: Bench, word: str, line: str) -> None:
     """A wrong answer of a C library is a difference. Without that library the program has none."""
     library, program = bench.path("wrong.so"), bench.compiled("judge_wronged")
     if not os.path.exists(library):
-        compiles([bench.compiler, "-O2", *WARNINGS, "-shared", "-fPIC", str(C_TESTS / "wrong_calls.c"), "-o", library, "-ldl"])
+        source = str(C_TESTS / "wrong_calls.c")
+        compiles([bench.compiler, "-O2", *WARNINGS, "-shared", "-fPIC", source, "-o", library, "-ldl"])
     shim = ("--shim", bench.shim(), *SOON)
     ran = bench.judged(*shim, "--preload", library, program, word, variables=(f"WRONG={word}",))
     said = ran.stdout.decode("ascii").splitlines()
