@@ -2,7 +2,8 @@
 may do to a call that waits: end it with EINTR, unless the handler restarts it, or cut a write short in either way.
 
 A signal without a handler does neither: it ends the process, stops it or has it go on, or is ignored. So an EINTR where
-no handler was set is an answer of the system that no signal explains.
+no handler was set is an answer of the system that no signal explains. Of a handler that is `heard` it is noted when it
+ran: an EINTR of a call in which it did not run is none of it.
 
 A note has the length of the log in the place of the place. A call began when the log was as long as its line tells, or
 at any time before; it had come back when its line was written.
@@ -16,10 +17,12 @@ from support.call_logs import is_wait
 from support.plain_model import TRANSFER_MAX
 from support.runs import Line
 
-from past import HANDLER, SIGNAL, Past
+from past import HANDLER, RAN, SIGNAL, Past
 
 # What a handler does to a call that waits; and that there is none, or that the signal is ignored.
 ENDS, RESTARTS, NONE, IGNORED = "ends", "restarts", "none", "ignored"
+# What stands after that where it is noted when a handler runs.
+HEARD = " heard"
 # What stands for all signals, as of a program that an exec has begun.
 ALL_SIGNALS = 0
 # Signals that may end a process that ignores them: those that cannot be ignored, abort's, and those of a fault.
@@ -75,6 +78,8 @@ class Handlers:
         for one in noted:
             if one.kind == HANDLER:
                 self.noted.setdefault(one.number, []).append(one)
+        # where each handler of a process ran
+        self.runs = {(it.number, int(it.call), it.place) for it in noted if it.kind == RAN}
         ends = itertools.accumulate(map(length_of, lines), initial=0)
         self.places = {id(line): place for place, line in zip(ends, lines, strict=False)}
         self.rests = rests_of([line for line in lines if not is_wait(line)])
@@ -95,11 +100,19 @@ class Handlers:
 
     def ending(self, line: Line) -> list[int]:
         """The signals that may have ended a call."""
-        return sorted(number for number, how in self.while_in(line).items() if ENDS in how)
+        return self.having(line, ENDS)
 
     def cutting(self, line: Line) -> list[int]:
         """The signals that may have cut a write short."""
-        return sorted(number for number, how in self.while_in(line).items() if how - {NONE, IGNORED})
+        return self.having(line, ENDS, RESTARTS)
+
+    def having(self, line: Line, *kinds: str) -> list[int]:
+        """The signals that may have had a handler of these kinds that ran while a call was made."""
+        begin, end, process = begun_at(line), self.places.get(id(line), 0), line.number()
+        ran = {number for who, number, place in self.runs if who == process and begin <= place <= end}
+        wanted = {*kinds, *(f"{it}{HEARD}" for it in kinds)}
+        found = ((number, how & wanted) for number, how in self.while_in(line).items())
+        return sorted(number for number, how in found if how & {*kinds} or (how and number in ran))
 
 
 def ended_ignoring(native: Sequence[Past], status: int | None) -> list[tuple[int, int]]:

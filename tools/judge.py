@@ -809,10 +809,10 @@ def told_finding(verdict: Verdict, before: int) -> list[str]:
 
 
 def told_unended(finding: Finding) -> list[str]:
-    """That no signal may be why a call has ended that gave EINTR, or a part."""
+    """That no signal may be why a call has ended that gave EINTR."""
     line = finding.parting.system
     is_ended = line is not None and line.outcome == "error EINTR" and not finding.reason
-    return ["no signal explains EINTR: none had a handler then that ends calls"] if is_ended else []
+    return ["no signal explains EINTR: no handler ran then that ends calls"] if is_ended else []
 
 
 def told_hidden(hidden: list[Parting]) -> list[str]:

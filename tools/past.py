@@ -25,6 +25,8 @@ INTERRUPT = "interrupt"
 TIMER, LIMIT, MADE = "timer", "limit", "made"
 # How a signal is handled from now on, whose number stands in the place of the call.
 HANDLER = "handler"
+# That a handler ran natively, of a signal whose number stands in the place of the call.
+RAN = "ran"
 # A call that makes a descriptor of the system, which natively has a low number.
 MAKES = "makes"
 # A call by which a program may lose rights of the superuser.

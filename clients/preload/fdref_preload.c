@@ -31,13 +31,14 @@
                         takes rights of the owner of a file; and
                         `- 6 p0 handler 14<tab>ends`, as it sets a handler of signal 14 that ends calls, or `restarts`
                         them, or takes it away (`none`), or as the signal is `ignored`. `- 6 p0 makes socket` is a call that makes a descriptor of the
-                        system, from 32 on, where a native run has the lowest that is free. In a native run five kinds
+                        system, from 32 on, where a native run has the lowest that is free. In a native run six kinds
                         are there: after `- 0 p0 cut exit` a process ended while others of its threads may have been in
                         a call; by `! 0 p0 made 3` a descriptor is higher since 3 is open, which no call made that fdref
                         knows; and `signal`, `handler` and `! 57 p0 cloexec F_GETFD<tab>3 = 0`, with the length of the
                         log in the place of the place: F_GETFD, or F_SETFD, has answered otherwise than by FD_CLOEXEC as
                         this library keeps it, in a process of one thread. There a child has the handlers of its parent
-                        once more, and after an exec 0 stands for all signals.
+                        once more, and after an exec 0 stands for all signals. After `ends heard` or `restarts heard`
+                        this library calls the handler, and notes `- 57 p0 ran 14` before.
 
    Without the first two nothing is changed, nor before a program has its environment, as in .preinit_array. Where there
    is no answer (no server, no place at it for one more process, a run that is full, a lost connection), and where a

@@ -481,7 +481,95 @@ mode_t umask(mode_t mask)
 
 /* ---- handlers of signals */
 
-typedef void (*handler)(int);
+/* A handler that the program has set runs, and it is noted before. */
+static void hear(int number)
+{
+    note_run(number);
+    if (passed_on[number].plain)
+        passed_on[number].plain(number);
+}
+
+static void hear_more(int number, siginfo_t *info, void *context)
+{
+    note_run(number);
+    if (passed_on[number].more)
+        passed_on[number].more(number, info, context);
+}
+
+/* Whether natively this library is to call a handler of a signal. A library in between may set one by another function
+   that is here. */
+static __thread int is_setting;
+static int hears(int number)
+{
+    return how == NATIVE && past_file >= 0 && number > 0 && number < NSIG && !is_setting;
+}
+
+/* SIG_DFL, SIG_IGN, SIG_HOLD and SIG_ERR are none. */
+static int is_function(handler to) { return (uintptr_t)to > 2 && to != SIG_ERR && to != hear; }
+
+typedef int acts_next(int, const struct sigaction *, struct sigaction *);
+
+/* Sets a handler, which this library calls from now on, and tells the one before. */
+static int set_heard(acts_next *next, int number, const struct sigaction *to, struct sigaction *was)
+{
+    struct quiet before = be_quiet();
+    struct sigaction own, past;
+    struct passed_on last = passed_on[number];
+    int given, error;
+    if (to)
+        own = *to;
+    if (to && (to->sa_flags & SA_SIGINFO) != 0 && is_function(to->sa_handler) && to->sa_sigaction != hear_more) {
+        passed_on[number].more = to->sa_sigaction;
+        passed_on[number].plain = NULL;
+        own.sa_sigaction = hear_more;
+    } else if (to && (to->sa_flags & SA_SIGINFO) == 0 && is_function(to->sa_handler)) {
+        passed_on[number].plain = to->sa_handler;
+        passed_on[number].more = NULL;
+        own.sa_handler = hear;
+    } else if (to) {
+        passed_on[number].plain = NULL;
+        passed_on[number].more = NULL;
+    }
+    is_setting = 1;
+    given = next(number, to ? &own : NULL, &past);
+    is_setting = 0;
+    error = errno;
+    if (given != 0)
+        passed_on[number] = last;
+    if (given == 0 && past.sa_handler == hear)
+        past.sa_handler = last.plain;
+    else if (given == 0 && past.sa_sigaction == hear_more)
+        past.sa_sigaction = last.more;
+    if (given == 0 && was)
+        *was = past;
+    end_quiet(before);
+    errno = error;
+    return given;
+}
+
+/* The same by the functions that have no more than a handler. */
+static handler set_plain(handler (*next)(int, handler), int number, handler to)
+{
+    struct quiet before = be_quiet();
+    struct passed_on last = passed_on[number];
+    handler given;
+    int error;
+    passed_on[number].plain = is_function(to) ? to : NULL;
+    passed_on[number].more = NULL;
+    is_setting = 1;
+    given = next(number, is_function(to) ? hear : to);
+    is_setting = 0;
+    error = errno;
+    if (given == SIG_ERR)
+        passed_on[number] = last;
+    if (given == hear)
+        given = last.plain;
+    else if ((uintptr_t)given == (uintptr_t)hear_more)
+        given = (handler)(uintptr_t)last.more;
+    end_quiet(before);
+    errno = error;
+    return given;
+}
 
 /* What changes how a signal is handled: that is noted as it is then. */
 #define HANDLES(type, name, parameters, words, number, is_changed) \
@@ -496,12 +584,34 @@ typedef void (*handler)(int);
             note_handler(number); \
         return given; \
     }
-HANDLES(int, sigaction, (int number, const struct sigaction *to, struct sigaction *was), (number, to, was), number,
-        to != NULL)
-HANDLES(handler, signal, (int number, handler to), (number, to), number, 1)
-HANDLES(handler, bsd_signal, (int number, handler to), (number, to), number, 1)
-HANDLES(handler, __sysv_signal, (int number, handler to), (number, to), number, 1)
-HANDLES(handler, sigset, (int number, handler to), (number, to), number, 1)
+#define ACTS(name) \
+    int name(int number, const struct sigaction *to, struct sigaction *was) \
+    { \
+        static acts_next *next; \
+        int given; \
+        prepare(); \
+        find(&next, #name); \
+        given = hears(number) ? set_heard(next, number, to, was) : next(number, to, was); \
+        if (to && !is_setting) \
+            note_handler(number); \
+        return given; \
+    }
+#define ACTS_PLAINLY(name) \
+    handler name(int number, handler to) \
+    { \
+        static handler (*next)(int, handler); \
+        handler given; \
+        prepare(); \
+        find(&next, #name); \
+        given = hears(number) ? set_plain(next, number, to) : next(number, to); \
+        note_handler(number); \
+        return given; \
+    }
+ACTS(sigaction)
+ACTS_PLAINLY(signal)
+ACTS_PLAINLY(bsd_signal)
+ACTS_PLAINLY(__sysv_signal)
+ACTS_PLAINLY(sigset)
 HANDLES(int, sigignore, (int number), (number), number, 1)
 HANDLES(int, siginterrupt, (int number, int ends), (number, ends), number, 1)
 
@@ -674,10 +784,9 @@ FAILS(int, daemon, (int keeps_folder, int keeps_files), (keeps_folder, keeps_fil
 /* ---- the names that only Linux and glibc have */
 
 #ifdef __GLIBC__
-HANDLES(int, __sigaction, (int number, const struct sigaction *to, struct sigaction *was), (number, to, was), number,
-        to != NULL)
-HANDLES(handler, sysv_signal, (int number, handler to), (number, to), number, 1)
-HANDLES(handler, ssignal, (int number, handler to), (number, to), number, 1)
+ACTS(__sigaction)
+ACTS_PLAINLY(sysv_signal)
+ACTS_PLAINLY(ssignal)
 
 int execvpe(const char *path, char *const list[], char *const env[])
 {

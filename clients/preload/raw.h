@@ -180,8 +180,11 @@ long syscall(long number, ...)
     if (takes_rights(number))
         changes_rights("syscall");
     done = next(number, given[0], given[1], given[2], given[3], given[4], given[5]);
-    if (number == SYS_rt_sigaction && given[1] != 0)
+    if (number == SYS_rt_sigaction && given[1] != 0 && given[0] > 0 && given[0] < NSIG) {
+        static const struct passed_on none;
+        passed_on[given[0]] = none;
         note_handler((int)given[0]);
+    }
     return done;
 }
 

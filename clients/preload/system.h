@@ -233,6 +233,24 @@ static void note_handling(int number, const char *how_handled)
     notes("handler", text, how_handled);
 }
 
+/* Notes that a handler of a signal runs. It may have a small stack. */
+static void note_run(int number)
+{
+    char text[80], *at = text + sizeof text;
+    uint64_t numbers[3] = {(uint64_t)number, native_number, (uint64_t)log_length()};
+    static const char *const before[3] = {" ran ", " p", "- "};
+    *--at = '\n';
+    for (int which = 0; which < 3; which++) {
+        const char *word = before[which];
+        size_t size = strlen(word);
+        for (uint64_t rest = numbers[which], is_first = 1; rest > 0 || is_first; rest /= 10, is_first = 0)
+            *--at = (char)('0' + rest % 10);
+        at -= size;
+        memcpy(at, word, size);
+    }
+    append(past_file, "what goes past fdref", at, (size_t)(text + sizeof text - at));
+}
+
 /* What fdref leaves out ends a program that has to be strict. */
 static void end_strictly(const char *what)
 {

@@ -401,6 +401,21 @@ static int64_t look_by_name(const char *name, struct file *file)
 enum handling { NO_HANDLER, ENDS_CALLS, RESTARTS, IGNORED };
 static enum handling handlings[NSIG];
 static const char *const told_handlings[] = {"none", "ends", "restarts", "ignored"};
+static const char *const told_heard[] = {"none", "ends heard", "restarts heard", "ignored"};
+
+/* The handlers of a native run that this library calls, so that it is noted when they run. */
+typedef void (*handler)(int);
+struct passed_on {
+    handler plain;
+    void (*more)(int, siginfo_t *, void *);
+};
+static struct passed_on passed_on[NSIG];
+static char are_heard[NSIG];
+
+static void note_how(int number)
+{
+    note_handling(number, (are_heard[number] ? told_heard : told_handlings)[handlings[number]]);
+}
 
 static enum handling handling_of(int number)
 {
@@ -415,10 +430,14 @@ static enum handling handling_of(int number)
 /* Notes how a signal is handled, where that has changed. */
 static void note_handler(int number)
 {
-    int error = errno;
-    if ((how == ASKED || how == NATIVE) && number > 0 && number < NSIG && handling_of(number) != handlings[number]) {
-        handlings[number] = handling_of(number);
-        note_handling(number, told_handlings[handlings[number]]);
+    int error = errno, is_known = (how == ASKED || how == NATIVE) && number > 0 && number < NSIG, is_heard;
+    if (is_known) {
+        is_heard = passed_on[number].plain || passed_on[number].more;
+        if (handling_of(number) != handlings[number] || is_heard != are_heard[number]) {
+            handlings[number] = handling_of(number);
+            are_heard[number] = (char)is_heard;
+            note_how(number);
+        }
     }
     errno = error;
 }
@@ -428,7 +447,7 @@ static void note_handlers(void)
 {
     for (int number = 1; number < NSIG; number++)
         if (handlings[number] != NO_HANDLER)
-            note_handling(number, told_handlings[handlings[number]]);
+            note_how(number);
 }
 
 /* ---- beginning and ending */

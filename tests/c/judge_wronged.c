@@ -7,6 +7,7 @@
 #include <fcntl.h>
 #include <signal.h>
 #include <stdio.h>
+#include <stdlib.h>
 #include <string.h>
 #include <sys/ioctl.h>
 #include <sys/wait.h>
@@ -91,6 +92,37 @@ static void break_pipe(void)
     close(ends[1]);
 }
 
+static int heard;
+static void hear(int number) { heard += number == SIGUSR1; }
+static void hear_more(int number, siginfo_t *info, void *context) { heard += info->si_signo == number && context; }
+
+/* Handlers run between calls, and none in a read. */
+#pragma GCC diagnostic ignored "-Wdeprecated-declarations"
+static void hear_signals(void)
+{
+    struct sigaction action, was;
+    memset(&action, 0, sizeof action);
+    action.sa_handler = hear;
+    sigaction(SIGUSR1, &action, NULL);
+    raise(SIGUSR1);
+    action.sa_sigaction = hear_more;
+    action.sa_flags = (int)(SA_SIGINFO | SA_RESETHAND);
+    sigaction(SIGUSR1, &action, &was);
+    raise(SIGUSR1);
+    if (heard != 2 || was.sa_handler != hear || signal(SIGUSR1, hear) != SIG_DFL || signal(SIGUSR1, hear) != hear)
+        exit(1);
+    siginterrupt(SIGUSR1, 1);
+    sigaction(SIGUSR1, NULL, &was);
+    if (was.sa_handler != hear || (was.sa_flags & SA_RESTART) != 0)
+        exit(1);
+    write(ends[1], "x", 1);
+    raise(SIGUSR1);
+    lseek(ends[0], 0, SEEK_CUR);
+    read(ends[0], bytes, 1);
+    if (heard != 3)
+        exit(1);
+}
+
 static void copy_to(void)
 {
     fclose(fopen("/dev/null", "r"));
@@ -110,7 +142,7 @@ int main(int count, char **words)
         {"write-cut", write_much},      {"dupfd-high", copy},
         {"dupfd-refused", copy},        {"close-kept", end},
         {"dup2-zero", copy_to},         {"pipe-turned", copy_to},
-        {"pipe-broken", break_pipe},
+        {"pipe-broken", break_pipe},    {"early-signal", hear_signals},
     };
     if (count != 2 || pipe(ends) != 0)
         return 1;

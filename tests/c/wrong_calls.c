@@ -10,6 +10,7 @@
    close-kept      close keeps the file open
    dup2-zero       dup2 gives 0
    pipe-turned     pipe gives the writing end first
+   early-signal    a read is EINTR though no handler has run
    pipe-broken     a write that is EPIPE ends a process that ignores SIGPIPE */
 
 #define _GNU_SOURCE
@@ -32,7 +33,9 @@ static int is_wrong(const char *how)
 
 ssize_t read(int fd, void *to, size_t count)
 {
-    ssize_t done = syscall(SYS_read, fd, to, count);
+    ssize_t done = is_wrong("early-signal") ? -1 : syscall(SYS_read, fd, to, count);
+    if (is_wrong("early-signal"))
+        errno = EINTR;
     if (done != 0 || count == 0 || syscall(SYS_lseek, fd, 0L, SEEK_CUR) >= 0 || !is_wrong("dry-end"))
         return done;
     errno = EAGAIN;

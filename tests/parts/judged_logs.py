@@ -67,6 +67,13 @@ HANDLERS = (
     ("that is taken away while it waits", "- 0 p0 handler 14\tends; - 18 p0 handler 14\tnone", True),
     ("of the program before an exec", "- 0 p0 handler 14\tends; - 18 p0 handler 0\tnone", False),
     ("of another process", "- 0 p1 handler 14\tends", False),
+    ("that did not run", "- 0 p0 handler 14\tends heard", False),
+    ("that ran while it waits", "- 0 p0 handler 14\tends heard; - 18 p0 ran 14", True),
+    ("that ran before", "- 0 p0 handler 14\tends heard; - 5 p0 ran 14", False),
+    ("that ran after it", "- 0 p0 handler 14\tends heard; - 49 p0 ran 14", False),
+    ("beside one that ran", "- 0 p0 handler 14\tends heard; - 0 p0 handler 15\tends heard; - 18 p0 ran 15", None),
+    ("that ran in another process", "- 0 p0 handler 14\tends heard; - 18 p1 ran 14", False),
+    ("that ran and restarts it", "- 0 p0 handler 14\trestarts heard; - 18 p0 ran 14", False),
 )
 A_WRITE_IS_CUT = (
     "p0 pipe = 0 1; p0 write 1 61*65000 = 40000",
@@ -222,7 +229,9 @@ LOGS = [
         Logs(
             f"an EINTR, and a handler {when}",
             *A_READ_ENDS,
-            IS_EINTR if is_why else IS_NONE,
+            [it.replace("14 (SIGALRM)", "15 (SIGTERM)") for it in IS_EINTR] if is_why is None else IS_EINTR
+            if is_why
+            else IS_NONE,
             fdref_ends=KILLED,
             noted=noted,
         )

@@ -130,7 +130,7 @@ GO_ON = b"".join(
 THREAD = b"judge.py: a thread waits in read, and no other one can make a call meanwhile\n"
 SIGNAL = b"judge.py: a signal comes while read waits, and ends no call of fdref\n"
 EINTR = "a signal ends a call (EINTR): signal 14 (SIGALRM) has a handler"
-UNENDED = "no signal explains EINTR: none had a handler then that ends calls"
+UNENDED = "no signal explains EINTR: no handler ran then that ends calls"
 NOT_JUDGED = "verdict: not judged: "
 ENDS_OTHERWISE = f"{NOT_JUDGED}the two runs end otherwise, or write something else"
 NUMBERS = "the number of a process, an address, the time or a random number"
@@ -649,6 +649,7 @@ WRONGED = {
     "close-kept": "system: p0 read 3 1 = x78",
     "dup2-zero": "system: p0 dup2 4 9 = 0",
     "pipe-turned": "system: p0 pipe = 4 3",
+    "early-signal": "system: p0 read 3 1 = error EINTR",
     "pipe-broken": "verdict: a difference: signal 13 (SIGPIPE) has ended p0 on the system, which ignores it",
 }
 

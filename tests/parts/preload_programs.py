@@ -250,15 +250,16 @@ def starts_timers(program: str, library: Library) -> None:
 
 
 def sets_handlers(program: str, library: Library) -> None:
-    """Handlers that a program sets are noted with what they do to a call, each once. Natively a child has them, too,
-    until an exec."""
+    """Handlers that a program sets are noted with what they do to a call, each once, and natively that it will be noted
+    when they run. There a child has them, too, until an exec."""
     own = ["10\trestarts", "10\tends", "13\tignored", "12\tends", "12\tignored"]
     # what is ignored is so after an exec
     of_program = ["10\tends", "12\tignored", "13\tignored", "0\tnone", "12\tignored", "13\tignored"]
     native, asked = noted(library, "handlers", ()), noted_asking(program, library, "handlers", sessions=2)
     same((Ran(0, b"", b""),) * 2, (native.given.ran, asked.given.ran))
     of_parent, of_child = ([f"- p0 handler {it}" for it in own], [f"- p1 handler {it}" for it in of_program])
-    same((of_parent + of_child, of_parent), (native.past, asked.past))
+    heard = [re.sub("(ends|restarts)$", r"\1 heard", line) for line in of_parent + of_child]
+    same((heard, of_parent), (native.past, asked.past))
 
 
 def cancels(program: str, library: Library) -> None:
