@@ -169,7 +169,12 @@ struct slot {
 };
 static struct slot slots[NUMBERS];
 
-static int is_open_in_kernel(int fd) { return system_fcntl(fd, F_GETFD, 0) != -1; }
+static int is_open_in_kernel(int fd)
+{
+    int error = errno, is_open = system_fcntl(fd, F_GETFD, 0) != -1;
+    errno = error;
+    return is_open;
+}
 
 /* In a native run the numbers that a call known to fdref has made, that were there from the start, or that are told. */
 static char known[NUMBERS];

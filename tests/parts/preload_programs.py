@@ -259,7 +259,7 @@ def sets_handlers(program: str, library: Library) -> None:
     same((Ran(0, b"", b""),) * 2, (native.given.ran, asked.given.ran))
     of_parent, of_child = ([f"- p0 handler {it}" for it in own], [f"- p1 handler {it}" for it in of_program])
     heard = [re.sub("(ends|restarts)$", r"\1 heard", line) for line in of_parent + of_child]
-    same((heard, of_parent), (native.past, asked.past))
+    same((heard, [*of_parent, *of_child[-2:]]), (native.past, asked.past))
 
 
 def cancels(program: str, library: Library) -> None:
