@@ -502,6 +502,7 @@ class Verdict:
         self.native = past.past_of(both.system_past)
         self.flags, self.flags_by = past.flags(self.native, self.past)
         self.signals = self.wrong_signals()
+        self.looks = self.looked_apart()
         self.crashes = [CRASHES[number] for number in past.signals(self.past) if number in CRASHES]
         if not self.compared.fdref.total() and not self.compared.system.total():
             told = told_started(self.compared.started) + past.told_past(self.past) + told_fault(both.fdref)
@@ -551,7 +552,16 @@ class Verdict:
 
     def differs(self) -> bool:
         """Whether an answer differs that neither a reason nor an order of the calls explains."""
-        return bool(self.flags and not self.flags_by) or bool(self.signals) or self.differs_in_calls()
+        is_told = bool(self.flags and not self.flags_by) or bool(self.signals or self.looks)
+        return is_told or self.differs_in_calls()
+
+    def looked_apart(self) -> list[str]:
+        """What is said of a stat that tells another size or another number of links, or of another file: in a program of
+        one thread whose calls are all answered alike, and which did nothing that has no line."""
+        compared = self.compared
+        is_clear = compared.is_one() and not compared.findings and not compared.has_appended()
+        apart = past.looked_apart(self.native, self.past) if is_clear and not past.doubt(self.past) else None
+        return [f"stat tells otherwise: system: {apart[0]}, fdref: {apart[1]}"] if apart else []
 
     def wrong_signals(self) -> list[str]:
         """What is said of signals that have ended a process on the system which ignores them, and of SIGPIPE where it
@@ -863,8 +873,8 @@ def told_unexplained(verdict: Verdict) -> str:
 
 def told_difference(verdict: Verdict) -> str:
     """What status 1 means."""
-    if verdict.signals:
-        return verdict.signals[0]
+    if verdict.signals or verdict.looks:
+        return [*verdict.signals, *verdict.looks][0]
     if verdict.differs_in_calls() and verdict.order and verdict.order.is_found is False:
         return verdict.order.said
     if verdict.differs_in_calls():

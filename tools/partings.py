@@ -546,9 +546,16 @@ class Compared:
     def story(self) -> Story:
         """What fdref recorded, from its beginning."""
         backwards = frozenset(are_backwards(self.system))
-        # the first thread of a process has no number
-        is_one = len(self.system.calls) == 1 and all(line.place.partition("@")[0] == "-" for line in self.system_lines)
-        return Story(self.records, self.limits, self.handlers, self.turns, self.room, backwards, is_one)
+        return Story(self.records, self.limits, self.handlers, self.turns, self.room, backwards, self.is_one())
+
+    def is_one(self) -> bool:
+        """Whether one thread of one process made all calls; the first thread of a process has no number."""
+        return len(self.system.calls) == 1 and all(line.place.partition("@")[0] == "-" for line in self.system_lines)
+
+    def has_appended(self) -> bool:
+        """Whether a pwrite under append may have made a file another one on the system."""
+        acts = " ".join(line.act for line in self.records)
+        return " pwrite " in acts and "append" in acts
 
     def looks(self) -> list[int]:
         """The places at which the library looked at a name for the program, as stat, access and truncate do."""

@@ -4,6 +4,7 @@ A line is `! 6 p0 stream fopen`, and after a tab the name that the call has, if 
 `call`. `!` stands where --strict would tell it, else `-`. The place is that of the last record of its process before.
 """
 
+import errno
 import re
 from typing import NamedTuple
 
@@ -29,6 +30,8 @@ HANDLER = "handler"
 RAN = "ran"
 # A call that makes a descriptor of the system, which natively has a low number.
 MAKES = "makes"
+# What stat has told of a name of fdref, or would have.
+LOOK = "look"
 # A call by which a program may lose rights of the superuser.
 RIGHTS = "rights"
 # A native F_GETFD or F_SETFD that has answered otherwise than by the flag as it was set.
@@ -44,7 +47,7 @@ COUNTED = {
 MANY = {MAKES: "descriptors of the system"}
 
 # Kinds that have changed nothing in the native run which has no line, or are asked for by themselves.
-UNDOUBTED = (THREAD, SIGNAL, VFORK, CUT, INTERRUPT, TIMER, MADE, HANDLER, MAKES, RIGHTS)
+UNDOUBTED = (THREAD, SIGNAL, VFORK, CUT, INTERRUPT, TIMER, MADE, HANDLER, MAKES, RIGHTS, LOOK)
 
 # Calls that look, or hasten what comes anyway: they change no file, but may tell something else than natively.
 LOOKS = re.compile(
@@ -59,6 +62,8 @@ SETS = re.compile(r"[lf]?chmod\w*|[lf]?chown\w*|umask|(?:f|l)?utime\w*|e?u?i?d?a
 TAKES = re.compile(r"opendir|mko?stemps?(?:64)?|fts\w*_open|syscall of pipe2?")
 # Calls with two names, which fail where one of them is fdref's and the other one is not.
 BETWEEN = re.compile(r"link(?:at)?|rename(?:at2?)?")
+# What fdref answers to a look for want of a descriptor, and to names that it does not take.
+OWN_ERRORS = (errno.EMFILE, errno.EINVAL, errno.ENAMETOOLONG)
 # What a child that is still there with fdref may answer otherwise: it holds the ends of pipes, or reads them.
 OF_PIPES = ("open", "read", "write", "fstat")
 
@@ -93,7 +98,7 @@ class Past(NamedTuple):
 
     def is_past(self) -> bool:
         """Whether it is a call that went past fdref, and not what holds one of fdref."""
-        return self.kind not in (THREAD, SIGNAL, MADE, INTERRUPT, HANDLER, MAKES, RIGHTS)
+        return self.kind not in (THREAD, SIGNAL, MADE, INTERRUPT, HANDLER, MAKES, RIGHTS, LOOK)
 
     def why(self) -> str:
         """The same as what a difference may be by."""
@@ -231,6 +236,18 @@ def told_flags(found: list[Past]) -> list[str]:
         return []
     count = several(len(found), "answer about FD_CLOEXEC differs", "answers about FD_CLOEXEC differ")
     return [f"{count} from what was set: system: p{found[0].number} fcntl {found[0].call} {found[0].name}"]
+
+
+def looked_apart(native: list[Past], every: list[Past]) -> tuple[str, str] | None:
+    """The first look of a process at a name in which the two runs tell something else of a file, as long as both look at
+    the same names. Errors of the profile alone are none."""
+    both = ([it.name for it in notes if it.kind == LOOK and it.number == 0] for notes in (native, every))
+    for system, fdref in zip(*both, strict=False):
+        if system.split(" = ")[0] != fdref.split(" = ")[0]:
+            return None
+        if system != fdref and not any(fdref.endswith(f" = error {number}") for number in OWN_ERRORS):
+            return system, fdref
+    return None
 
 
 def cuts(every: list[Past]) -> bool:

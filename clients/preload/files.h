@@ -10,10 +10,15 @@ static int64_t told(int64_t done, int fd, struct file *file)
     return done;
 }
 
+/* The name that was looked at last which fdref is asked for, or is natively not asked for, or NULL. */
+static __thread const char *looked_at;
+
 /* Looks at a name: 0, -1, or 1 where the system is to be asked. */
 static int look(const char *what, int folder, const char *name, int flags, struct file *file)
 {
-    if (way_in(what, folder, &name) == ASK && (*name || (flags & AT_EMPTY_PATH) == 0))
+    enum way way = way_in(what, folder, &name);
+    looked_at = way != PASS && *name && strlen(name) <= FDREF_NAME_MOST ? name : NULL;
+    if (way == ASK && (*name || (flags & AT_EMPTY_PATH) == 0))
         return (int)ALONE(look_by_name(name, file));
     if (name && *name == 0 && (flags & AT_EMPTY_PATH) != 0 && folder >= 0 && way_of(folder) == ASK)
         return (int)ALONE(told(ask_aside(fdref_act_fstat(folder), NULL, 0), folder, file));
@@ -42,6 +47,22 @@ static int seen(int fd, int done, mode_t mode, uint64_t size, uint32_t links)
     return (int)ALONE(note(fdref_act_fstat(fd), fdref_told(kind, size, links), done));
 }
 
+/* Notes what was told of such a name. */
+static void note_look(int done, mode_t mode, uint64_t size, uint64_t links)
+{
+    char text[FDREF_NAME_MOST + 80];
+    int error = errno;
+    if (done < 0)
+        snprintf(text, sizeof text, "%s = error %d", looked_at, error);
+    else if (S_ISREG(mode))
+        snprintf(text, sizeof text, "%s = regular %llu %llu", looked_at, (unsigned long long)size,
+                 (unsigned long long)links);
+    else
+        snprintf(text, sizeof text, "%s = %s", looked_at, S_ISFIFO(mode) ? "fifo" : "other");
+    notes("look", "stat", text);
+    errno = error;
+}
+
 #define LOOKS(function, parameters, words, folder, flags) \
     int function parameters \
     { \
@@ -50,9 +71,15 @@ static int seen(int fd, int done, mode_t mode, uint64_t size, uint32_t links)
         int done = look("stat", folder, name, flags, &file); \
         if (done == 0) \
             FILL(to, file); \
-        if (done > 0) \
+        if (done > 0) { \
             find(&next, #function); \
-        return done > 0 ? next words : done; \
+            done = next words; \
+        } \
+        if (looked_at) \
+            note_look(done, done < 0 ? 0 : to->st_mode, done < 0 ? 0 : (uint64_t)to->st_size, \
+                      done < 0 ? 0 : (uint64_t)to->st_nlink); \
+        looked_at = NULL; \
+        return done; \
     }
 #define LOOKS_AT(function, parameters, words) \
     int function parameters \

@@ -10,6 +10,7 @@
 #include <stdlib.h>
 #include <string.h>
 #include <sys/ioctl.h>
+#include <sys/stat.h>
 #include <sys/wait.h>
 #include <unistd.h>
 
@@ -123,6 +124,15 @@ static void hear_signals(void)
         exit(1);
 }
 
+/* Prints the size of a file by its name. */
+static void look(void)
+{
+    struct stat told;
+    close(open("a", O_RDWR | O_CREAT, 0600));
+    if (stat("a", &told) == 0 && stat("b", &told) != 0)
+        printf("%ld\n", (long)told.st_size);
+}
+
 static void copy_to(void)
 {
     fclose(fopen("/dev/null", "r"));
@@ -143,6 +153,7 @@ int main(int count, char **words)
         {"dupfd-refused", copy},        {"close-kept", end},
         {"dup2-zero", copy_to},         {"pipe-turned", copy_to},
         {"pipe-broken", break_pipe},    {"early-signal", hear_signals},
+        {"stat-size", look},
     };
     if (count != 2 || pipe(ends) != 0)
         return 1;

@@ -10,6 +10,7 @@
    close-kept      close keeps the file open
    dup2-zero       dup2 gives 0
    pipe-turned     pipe gives the writing end first
+   stat-size       stat tells a byte more
    early-signal    a read is EINTR though no handler has run
    pipe-broken     a write that is EPIPE ends a process that ignores SIGPIPE */
 
@@ -22,6 +23,7 @@
 #include <stdarg.h>
 #include <stdlib.h>
 #include <string.h>
+#include <sys/stat.h>
 #include <sys/syscall.h>
 #include <unistd.h>
 
@@ -104,4 +106,15 @@ int dup(int fd)
 int open(const char *name, int flags, ...)
 {
     return (int)syscall(SYS_openat, AT_FDCWD, name, is_wrong("cloexec-unset") ? flags & ~O_CLOEXEC : flags, 0600);
+}
+
+int stat(const char *name, struct stat *to)
+{
+    int (*next)(const char *, struct stat *), done;
+    void *found = dlsym(RTLD_NEXT, "stat");
+    memcpy(&next, &found, sizeof next);
+    done = next(name, to);
+    if (done == 0 && is_wrong("stat-size"))
+        to->st_size++;
+    return done;
 }

@@ -1275,6 +1275,35 @@ def tells_flags(noted: str, said: str) -> None:
     require(FLAGS in judge.told(verdict, 60, 0).splitlines(), judge.told(verdict, 60, 0))
 
 
+# What stat told of names natively and with fdref, what else is noted, a call more, and what is said, if anything is.
+LOOKED = [
+    ("a = regular 1 1", "a = regular 0 1", "", "", "a = regular 1 1, fdref: a = regular 0 1"),
+    ("a = error 2", "a = regular 0 1", "", "", "a = error 2, fdref: a = regular 0 1"),
+    ("a = regular 0 1", "a = regular 0 1", "", "", ""),
+    ("b = regular 1 1", "a = regular 0 1", "", "", ""),
+    ("a = error 2", "a = error 24", "", "", ""),
+    ("a = regular 1 1", "a = regular 0 1", "! 1 p0 stream fopen\ta", "", ""),
+    ("a = regular 1 1", "a = regular 0 1", "! 1 p0 path access\td/a", "", "a = regular 1 1, fdref: a = regular 0 1"),
+    ("a = regular 1 1", "a = regular 0 1", "", "; {}p0 setfl 0 rw,append = ok; {}p0 pwrite 0 0 x61 = 1", ""),
+    ("a = regular 1 1", "a = regular 0 1", "", "; {}p0 fork = 1; {}p1 close 0 = ok", ""),
+]
+
+
+def tells_looked(system: str, fdref: str, noted: str, more: str, said: str) -> None:
+    """A stat that tells something else is a difference where nothing that is seen may be why."""
+    calls = lines_of(f"p0 open a rw,creat = 0{more}".replace("{}", ""))
+    attached = [line for call in calls for line in (call, *["p1 attach = ok"] * call.startswith("p0 fork"))]
+    trace = [f"{at} {line}" for at, line in enumerate(["p0 join = 0", *attached])]
+    native = as_bytes([f"- 30 p0 look stat\t{system}"])
+    past_fdref = as_bytes([*([noted] if noted else []), f"- 1 p0 look stat\t{fdref}"])
+    logs = as_bytes([f"- {call}" for call in calls]), as_bytes(logged(trace))
+    both = judge.Both(WELL, WELL, *logs, trace_of(trace), past_fdref, system_past=native)
+    verdict = judge.Verdict(both, f"legal {len(trace)} rest 0")
+    told, status = ending(verdict)
+    same(1 if said else 0, status)
+    require(not said or told == f"verdict: a difference: stat tells otherwise: system: {said}", told)
+
+
 REFUSED = "p0 open a rw,creat = 0; p0 open a r = error {}"
 REFUSED_HERE = "0 p0 join = 0; 1 p0 open a rw,creat = 0; 2 p0 open a r = 1"
 
@@ -1385,6 +1414,8 @@ def cases() -> Iterator[Case]:
         yield f"a call that the system did not answer, after {noted}", partial(is_left, noted, status)
     for noted, said in FLAGS_BY.items():
         yield f"a flag that is not as it was set, after {noted}", partial(tells_flags, noted, said)
+    for looked in LOOKED:
+        yield f"what stat told: {looked}", partial(tells_looked, *looked)
     for error in ("EACCES", "EPERM"):
         for noted, is_superuser, status in (
             ("", True, 1),
