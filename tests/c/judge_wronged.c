@@ -153,7 +153,7 @@ int main(int count, char **words)
         {"dupfd-refused", copy},        {"close-kept", end},
         {"dup2-zero", copy_to},         {"pipe-turned", copy_to},
         {"pipe-broken", break_pipe},    {"early-signal", hear_signals},
-        {"stat-size", look},
+        {"stat-size", look},            {"never-back", copy_to},
     };
     if (count != 2 || pipe(ends) != 0)
         return 1;

@@ -10,6 +10,7 @@
    close-kept      close keeps the file open
    dup2-zero       dup2 gives 0
    pipe-turned     pipe gives the writing end first
+   never-back      a read never comes back
    stat-size       stat tells a byte more
    early-signal    a read is EINTR though no handler has run
    pipe-broken     a write that is EPIPE ends a process that ignores SIGPIPE */
@@ -35,6 +36,8 @@ static int is_wrong(const char *how)
 
 ssize_t read(int fd, void *to, size_t count)
 {
+    while (is_wrong("never-back"))
+        pause();
     ssize_t done = is_wrong("early-signal") ? -1 : syscall(SYS_read, fd, to, count);
     if (is_wrong("early-signal"))
         errno = EINTR;

@@ -649,6 +649,7 @@ WRONGED = {
     "close-kept": "system: p0 read 3 1 = x78",
     "dup2-zero": "system: p0 dup2 4 9 = 0",
     "pipe-turned": "system: p0 pipe = 4 3",
+    "never-back": "fdref:  8 p0 read 3 1 = x78",
     "stat-size": "verdict: a difference: stat tells otherwise: system: a = regular 1 1, fdref: a = regular 0 1",
     "early-signal": "system: p0 read 3 1 = error EINTR",
     "pipe-broken": "verdict: a difference: signal 13 (SIGPIPE) has ended p0 on the system, which ignores it",
