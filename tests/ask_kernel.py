@@ -476,8 +476,8 @@ def one_difference_is_told(bench: Bench) -> None:
 )
 @case(
     "the first is struck, and one that is settled comes later",
-    b"p0 pipe\np0 read 0 65537\np0 fstat 0\n",
-    ["system: 2 p0 read 0 65537 = parked 0"],
+    b"p0 pipe\np0 write 1 61*1025\np0 fstat 0\n",
+    ["system: 2 p0 write 1 61*1025 = 1025"],
 )
 @case(
     "the second of two that are struck comes first",

@@ -13,13 +13,14 @@ from support import plain_model
 from support.commands import ChosenLimits
 from support.histories import UNKNOWN, WAITS, Noted
 from support.ordering import ROOMY, Explained, explain
-from support.plain_model import Description, Limits, Process, Reply, World
+from support.plain_model import Limits, World
 from support.replaying import Differs, is_waiting, replayed
 from support.runs import Line, Settled, line_of
 from support.searching import FOREVER, Step
 
-from compare_lines import act_of
-from compare_reasons import APPENDED, Difference, Reason, follows_append, is_append, is_paged_room, is_room, reason_of
+from compare_instead import Appending
+from compare_reasons import APPENDED, Difference, Reason, follows_append, is_paged_room, is_room, reason_of
+from compare_runs import act_of
 
 
 # How a reason is looked for.
@@ -81,17 +82,6 @@ def in_order(history: Sequence[Noted], steps: Iterable[Step]) -> list[Noted]:
 
 
 # ---- the model beside a history
-
-
-class Appending(World):
-    """A world in which a pwrite under append writes at the end."""
-
-    def pwrite(self, process: Process, fd: int, start: int, data: bytes) -> Reply:
-        """The call."""
-        at: Description | None = process.table.get(fd)
-        if at and start >= 0 and is_append(plain_model.Act(process.number, "pwrite"), at):
-            start = len(at.regular.data)
-        return super().pwrite(process, fd, start, data)
 
 
 class Beside:

@@ -15,9 +15,11 @@ contents of each descriptor and of each name. With --text scripts may have the c
 `fdref replay --text` reads.
 
 A difference is told with the lines before it and with its reason, if there is one: the page of the
-standard, and whether the system departs from it or the profile chose (own). Where system and fdref are
-apart after it, its act is struck from the script and the script is run again, so that one difference is
-not a hundred. A random script with a difference without a reason is shrunk.
+standard, and whether the system departs from it or the profile chose (own). Where the reason says what
+the act has to have done, fdref is given that instead, as a pwrite at the end of the file where a system
+appends: what the act left is compared. Where system and fdref are apart after another one, its act is
+struck from the script and the script is run again, so that one difference is not a hundred. A random
+script with a difference without a reason is shrunk.
 
 The last lines count the differences by reason, and tell which acts were struck: they were not compared further. Exit
 status: 0 where each difference had a reason, 1 where one had none, 2 for wrong words and where no script is found, 3
@@ -48,10 +50,11 @@ from support.shrinking import shrunk
 from support.summaries import Counts, add_summary
 from support.texts import several
 
+from compare_instead import ways
 from compare_lines import Asked, first_unfit, in_other_order, is_at_once, moved
 from compare_reasons import OWN, REASONS, Difference, Reason, appended_to, follows_append, process_of
 from compare_reasons import reason_of, told_reason
-from compare_runs import act_of, check_alike, ends_of_closing, is_told_back, places_of_script
+from compare_runs import Known, act_of, check_alike, ends_of_closing, is_told_back, places_of_script, together
 from compare_walks import CLASSES, class_of, random_lines, with_looks
 
 LINES_BEFORE = 12
@@ -83,9 +86,10 @@ class Checked:
 class Beside:
     """A run of the model beside the lines of a run, so that its world before a line is known."""
 
-    def __init__(self, lines: list[Line], limits: Limits) -> None:
+    def __init__(self, lines: list[Line], limits: Limits, known: Known) -> None:
         self.run = plain_model.Run(ALL_RECORDS, limits)
         self.lines = lines
+        self.known = known
         self.ends = ends_of_closing(lines)
         self.place = 0
         # how long a file was before each pwrite under append
@@ -103,53 +107,86 @@ class Beside:
                 process = process_of(self.run.world, act)
                 call = process.waits if process and act.word == "exit" else None
                 self.ended += [call] if isinstance(call, plain_model.WaitingWrite) else []
-                self.run.take(act)
+                for text in self.known.given(self.lines, at):
+                    self.run.take(plain_model.read_act(text.encode()))
         self.place = place
         return self.run.world
 
     def outcome_at(self, place: int) -> str:
         """What the model gives for the act of a line."""
         self.world_before(place + 1)
-        return self.run.lines[-1].rstrip("\n").rpartition(" = ")[2]
+        count = len(self.known.given(self.lines, place))
+        outcomes = [line.rstrip("\n").rpartition(" = ")[2] for line in self.run.lines[-count:] if count]
+        return together(outcomes, self.lines[place].outcome)
 
 
 def compared(asked: Asked, lines: list[bytes]) -> tuple[list[Line], list[Difference]]:
     """Runs a script once: the lines of the system, and the differences up to the first that sets the two apart."""
     system, turned = asked.exchanged(lines)
-    fdref = asked.fdref(system)
+    known = Known()
+    fdref, beside = asked.fdref(system), Beside(system, asked.limits, known)
     found: list[Difference] = []
-    known: set[int] = set()
-    beside = Beside(system, asked.limits)
     while True:
         place = first_unfit(asked, system, fdref, known)
         if place is None:
             return system, found
         reordered = in_other_order(asked, system, place, known)
         if reordered:
-            system, fdref, beside = reordered, asked.fdref(reordered), Beside(reordered, asked.limits)
+            system, fdref = reordered, asked.fdref(reordered, known)
+            beside = Beside(system, asked.limits, known)
             continue
         check_alike(system, fdref, place)
-        difference = Difference(place, system, system[place], fdref[place], beside.world_before(place))
-        difference.has_same_room, difference.counts_bytes = asked.has_same_room, asked.counts_bytes
+        difference = difference_at(asked, beside, fdref, place)
         difference.is_exchanged = place in turned
-        difference.size_before, difference.ended = beside.sizes.get(place - 1), beside.ended
-        difference.reason = reason_in(asked, difference)
-        # no reason excuses an fdref that the model contradicts
-        if system[place].act and place not in beside.ends and difference.fdref != beside.outcome_at(place):
-            difference.reason = None
         difference.earlier = {it.place: it.fdref for it in found}
         found.append(difference)
-        if not difference.reason or not difference.is_settled():
+        other = given_instead(asked, difference, known)
+        if other:
+            difference.is_followed = True
+            known, fdref = other
+            beside = Beside(system, asked.limits, known)
+        elif difference.reason and difference.is_settled():
+            known.places.add(place)
+        else:
             return system, found
-        known.add(place)
+
+
+def difference_at(asked: Asked, beside: Beside, fdref: list[Line], place: int) -> Difference:
+    """The difference in a line, with its reason, if it has one."""
+    system = beside.lines
+    difference = Difference(place, system, system[place], fdref[place], beside.world_before(place))
+    difference.has_same_room, difference.counts_bytes = asked.has_same_room, asked.counts_bytes
+    difference.size_before, difference.ended = beside.sizes.get(place - 1), beside.ended
+    difference.for_fdref = {at: beside.known.given(system, at) for at in beside.known.instead}
+    difference.reason = reason_in(asked, difference)
+    # no reason excuses an fdref that the model contradicts
+    if system[place].act and place not in beside.ends and difference.fdref != beside.outcome_at(place):
+        difference.reason = None
+    return difference
+
+
+def given_instead(asked: Asked, difference: Difference, known: Known) -> tuple[Known, list[Line]] | None:
+    """What is known, and the lines of fdref, where it is given what the system has to have done by the reason of a
+    difference; or None where that is not known, or does not fit."""
+    for place, acts in ways(difference):
+        other = known.but(place, acts)
+        fdref = asked.fdref(difference.lines, other)
+        unfit = first_unfit(asked, difference.lines, fdref, other)
+        if unfit is None or unfit > difference.place:
+            return other, fdref
+    return None
 
 
 def struck(lines: list[Numbered], system: list[Line], difference: Difference) -> list[Numbered]:
-    """A script without the act of a difference, and without the pwrite that it looks at."""
+    """A script without the act of a difference."""
     of_script = places_of_script(system)
-    at = of_script.index(difference.place) if difference.place in of_script else len(of_script)
-    first = at - 1 if follows_append(difference) else at
-    return lines[:first] + lines[at + 1 :]
+    at = of_script.index(act_place(difference)) if difference.place in of_script else len(of_script)
+    return lines[:at] + lines[at + 1 :]
+
+
+def act_place(difference: Difference) -> int:
+    """The place of the act of a difference: that of the pwrite under append, where it is a look at what that did."""
+    return difference.place - follows_append(difference)
 
 
 def placed(lines: list[Numbered], system: list[Line], difference: Difference) -> Placed:
@@ -177,7 +214,7 @@ def checked(asked: Asked, lines: list[bytes]) -> Checked:
             return result
         if not last or last.is_settled():
             return result
-        result.last = act_of(last.lines[last.place])
+        result.last = act_of(last.lines[act_place(last)])
         shorter = struck(numbered, system, last)
         if shorter == numbered:
             return result
@@ -217,9 +254,11 @@ def clipped(text: str) -> str:
 
 
 def told(difference: Difference) -> str:
-    """A difference, with the lines before it and its reason. Of those that differ as well what fdref says is told."""
+    """A difference, with the lines before it and its reason. Of those that differ as well it is told what fdref says,
+    and of those instead of which it is given others these."""
     before = range(max(difference.place - LINES_BEFORE, 0), difference.place)
     others = {place: f", and fdref says {outcome}" for place, outcome in difference.earlier.items()}
+    others |= {place: f", and fdref is given {'; '.join(acts)}" for place, acts in difference.for_fdref.items() if acts}
     lines = [(difference.lines[place], others.get(place, "")) for place in before]
     parts = [f"  {line.place} {line.act} = {line.outcome}{other}" for line, other in lines]
     line = difference.lines[difference.place]

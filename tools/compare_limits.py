@@ -13,8 +13,8 @@ from support.pipe_ends import change
 from support.plain_model import OFFSET_MAX, OPEN_MAX
 from support.runs import Line
 
-from compare_lines import act_of
 from compare_reasons import OWN, Difference, Reason, free_descriptors, gives_descriptors, names_of, reason_of
+from compare_runs import act_of
 
 # What each system has at least: descriptors (_POSIX_OPEN_MAX), bytes of a name (_POSIX_NAME_MAX), and bytes of a file,
 # which has 32 bits for its size (FILESIZEBITS).

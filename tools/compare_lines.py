@@ -12,7 +12,7 @@ from support.plain_model import DEFAULTS, PIPE_BUF, TRANSFER_MAX, Limits
 from support.running import CannotRun, run
 from support.runs import ALL_RECORDS, Line, line_of
 
-from compare_runs import act_of, bytes_of_write, ends_of_closing, is_told_back, places_of_script, run_of
+from compare_runs import Known, bytes_of_write, ends_of_closing, is_told_back, places_of_script, run_of
 from compare_turns import moves_of, with_moves, without_moves
 
 SECONDS = 120
@@ -151,20 +151,22 @@ class Asked:
         lines = done.stderr.decode("ascii", "replace").splitlines()
         return ", ".join(line for line in lines if line.startswith(("line ", "expected "))) or "not a script"
 
-    def fdref(self, lines: list[Line]) -> list[Line]:
-        """What fdref gives for the acts of a run."""
-        ends = ends_of_closing(lines)
-        script = "".join(act_of(line) + "\n" for place, line in enumerate(lines) if line.act and place not in ends)
-        records = min(2 * len(lines) + 200, ALL_RECORDS)
+    def fdref(self, lines: list[Line], known: Known | None = None) -> list[Line]:
+        """What fdref gives for the acts of a run, or for those that it is given instead."""
+        known, ends = known or Known(), ends_of_closing(lines)
+        places = [place for place, line in enumerate(lines) if line.act and place not in ends]
+        acts = [text for place in places for text in known.given(lines, place)]
+        records = min(2 * (len(lines) + len(acts)) + 200, ALL_RECORDS)
         words = [*self.program, "replay", "--records", str(records), *capacity_words(self.limits)]
-        return [line_of(line) for line in self.run(words, script.encode(), "fdref").decode("ascii").splitlines()]
+        text = self.run(words, "".join(f"{act}\n" for act in acts).encode(), "fdref").decode("ascii")
+        return known.joined(lines, [line_of(line) for line in text.splitlines()])
 
 
-def first_unfit(asked: Asked, system: list[Line], fdref: list[Line], known: set[int]) -> int | None:
+def first_unfit(asked: Asked, system: list[Line], fdref: list[Line], known: Known) -> int | None:
     """The place of the first lines that do not fit, but for those that are known, or None."""
     for place in range(max(len(system), len(fdref))):
         is_there = place < min(len(system), len(fdref))
-        if place not in known and not (is_there and fits(asked, system, place, fdref[place])):
+        if place not in known.places and not (is_there and fits(asked, system, place, fdref[place])):
             return place
     return None
 
@@ -182,7 +184,7 @@ def groups_before(lines: list[Line], place: int, has_unseen: bool) -> list[tuple
     return [(first, end) for first, end in reversed(groups) if first <= place and end - first > 1]
 
 
-def in_other_order(asked: Asked, lines: list[Line], place: int, known: set[int]) -> list[Line] | None:
+def in_other_order(asked: Asked, lines: list[Line], place: int, known: Known) -> list[Line] | None:
     """The run with calls that came back together in an order that fdref fits further, if there is one.
 
     Which of them the kernel served first is not seen, so each order may be the one that happened. Differences that are
@@ -192,7 +194,7 @@ def in_other_order(asked: Asked, lines: list[Line], place: int, known: set[int])
     return next((found for found in tries if found), None)
 
 
-def other_order(asked: Asked, lines: list[Line], place: int, known: set[int], has_unseen: bool) -> list[Line] | None:
+def other_order(asked: Asked, lines: list[Line], place: int, known: Known, has_unseen: bool) -> list[Line] | None:
     """The same, where writes that may have moved on unseen change their places too, or not."""
     tries = 0
     for first, end in groups_before(lines, place, has_unseen):
@@ -201,7 +203,7 @@ def other_order(asked: Asked, lines: list[Line], place: int, known: set[int], ha
             if tries > ORDERS_MOST:
                 return None
             tried = lines[:first] + list(order) + lines[end:]
-            unfit = first_unfit(asked, tried, asked.fdref(tried), known)
+            unfit = first_unfit(asked, tried, asked.fdref(tried, known), known)
             if unfit is None or unfit > max(place, end - 1):
                 return tried
     return None

@@ -11,7 +11,8 @@ from support import plain_model, walks
 from support.plain_model import LINK_MAX, NAME_MAX, OFFSET_MAX, OPEN_MAX, PIPE_BUF, TRANSFER_MAX
 from support.runs import Line
 
-from compare_lines import act_of, is_moved, moved
+from compare_lines import is_moved, moved
+from compare_runs import act_of
 
 # Systems give a pipe memory in pages of so many bytes.
 PAGE = 4_096
@@ -39,6 +40,9 @@ class Difference:
         self.reason: Reason | None = None
         # what fdref gives in the lines before it that differ, too
         self.earlier: dict[int, str] = {}
+        # the acts that fdref is given instead of those of some lines, and whether it is so because of this difference
+        self.for_fdref: dict[int, list[str]] = {}
+        self.is_followed = False
         # what is known of the pipes of the system: that they hold as many bytes as fdref's, and that they have no pages
         self.has_same_room = self.counts_bytes = False
         # whether it is a pipe whose ends have changed places since
@@ -108,8 +112,8 @@ class Difference:
     def is_settled(self) -> bool:
         """Whether system and fdref are in the same state after it, so that the run can go on."""
         is_look = self.words("fstat", "getfl") and not follows_append(self)
-        is_same = self.are_errors() or is_unchecked(self) or self.system == "not asked"
-        return is_same or is_look or (self.is_exchanged and is_turned(self))
+        is_same = self.are_errors() or is_unchecked(self) or is_vain(self) or self.system == "not asked"
+        return self.is_followed or is_same or is_look or (self.is_exchanged and is_turned(self))
 
 
 def process_of(world: plain_model.World, act: plain_model.Act) -> plain_model.Process | None:
@@ -555,6 +559,12 @@ def is_unchecked(it: Difference) -> bool:
         pipe = it.at.pipe if it.at and it.at.nonblock and it.words("read") and it.gives("x") else None
         return pipe is not None and not pipe.data and it.world.has_end(pipe, "w")
     return it.fdref.startswith("error ") and it.system == ("x" if it.words("read", "pread") else "0")
+
+
+def is_vain(it: Difference) -> bool:
+    """A read or write that a system refuses, and that moves no bytes in fdref."""
+    moves_none = "x" if it.words("read", "pread") else "0" if it.words("write", "pwrite") else None
+    return it.system.startswith("error ") and it.fdref == moves_none
 
 
 def is_turned(it: Difference) -> bool:

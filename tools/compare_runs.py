@@ -3,7 +3,8 @@ cannot be compared with fdref."""
 
 import itertools
 import re
-from collections.abc import Sequence
+from collections.abc import Mapping, Sequence
+from types import MappingProxyType
 from typing import NamedTuple, NoReturn
 
 from support import plain_model
@@ -63,6 +64,59 @@ def places_of_script(lines: Sequence[Line]) -> list[int]:
     """The places of the lines that stand for the acts of a script."""
     ends = ends_of_closing(lines)
     return [place for place, line in enumerate(lines) if line.act and not is_told_back(line) and place not in ends]
+
+
+# ---- acts that others stand for
+
+
+class Known:
+    """What is known of a run: the places of the differences that have a reason, and for places of others the acts that
+    fdref is given instead."""
+
+    def __init__(self, instead: Mapping[int, Sequence[plain_model.Act]] = MappingProxyType({})) -> None:
+        self.places: set[int] = set()
+        self.instead = instead
+
+    def given(self, lines: Sequence[Line], place: int) -> list[str]:
+        """The acts that fdref is given for a line, as they stand in a script."""
+        return list(map(script_line, self.instead[place])) if place in self.instead else [act_of(lines[place])]
+
+    def but(self, place: int, acts: Sequence[plain_model.Act]) -> "Known":
+        """The same, where it is given these for a line."""
+        other = Known({**self.instead, place: acts})
+        other.places = set(self.places)
+        return other
+
+    def joined(self, lines: Sequence[Line], found: Sequence[Line]) -> list[Line]:
+        """What fdref has printed for these acts, as a line for each of the system."""
+        joined: list[Line] = []
+        at = 0
+        for place, line in enumerate(lines):
+            count = len(self.given(lines, place))
+            here = found[at : at + count]
+            at += count
+            if place in self.instead:
+                here = [line._replace(outcome=together([it.outcome for it in here], line.outcome))]
+            joined += here
+        joined += found[at:]
+        more = sum(len(acts) - 1 for acts in self.instead.values())
+        _, records, rest = joined[-1].outcome.split(" ", 2)
+        return [*joined[:-1], joined[-1]._replace(outcome=f"records {int(records) - more} {rest}")]
+
+
+def together(outcomes: Sequence[str], otherwise: str) -> str:
+    """What acts give together that stand for one; where there are none, what that one gave."""
+    if len(outcomes) < 2 or not is_taken(outcomes[0]):
+        return outcomes[0] if outcomes else otherwise
+    given = [it for it in outcomes if is_taken(it)]
+    if outcomes[0].isdigit():
+        return str(sum(map(int, given)))
+    return plain_model.data_text(b"".join(plain_model.read_data(it.encode()) or b"" for it in given))
+
+
+def is_taken(outcome: str) -> bool:
+    """Whether an act was neither refused nor ended in an error."""
+    return not outcome.startswith(("error ", "refused ", "parked "))
 
 
 # ---- the run of a script

@@ -8,6 +8,7 @@ from support.contents import BLOCK
 from support.plain_model import DEFAULTS, OPEN_MAX, TRANSFER_MAX, Limits
 from support.runs import Settled, line_of
 
+from compare_instead import Appending, is_large, is_transfer, parts, pieces_of
 from compare_reasons import is_append, name_fault, names_of, process_of
 from compare_runs import is_told_back
 
@@ -15,24 +16,53 @@ from compare_runs import is_told_back
 
 
 def with_looks(lines: list[bytes], limits: Limits = DEFAULTS) -> list[bytes]:
-    """A script with acts that look at what a pwrite under append did, at calls that wait on from before a setfl, at
-    each call that can go on because of an act and, at the end, at all that is there."""
-    beside = Settled(limits)
+    """A script with acts that look at what a call has left that systems make otherwise, at calls that wait on from
+    before a setfl, at each call that can go on because of an act and, at the end, at all that is there."""
+    beside, appending = Settled(limits), Settled(limits)
+    appending.world = Appending(limits)
     looked: list[bytes] = []
     for line in lines:
         act = plain_model.read_act(line)
-        process = process_of(beside.world, act)
-        looked.append(line)
-        if process and act.word == "pwrite" and is_append(act, process.table.get(act.fields[0])):
-            looked.append(b"p%d fstat %d" % (process.number, act.fields[0]))
+        looks = [text.encode() for text in looks_at_left(act, beside.world, appending.world)]
+        looked += [line, *looks]
         seen = len(beside.lines)
-        beside.take(act)
+        for run in (beside, appending):
+            for it in parts(act, run.world):
+                run.take(it)
         looked_at = come_back(beside, seen)
         if act.word == "setfl":
             looked_at |= {number for number, it in beside.world.processes.items() if it.waits}
         looked += [b"p%d resume" % number for number in sorted(looked_at)]
     named = {name for line in lines for name in names_of(plain_model.read_act(line))}
     return looked + [text.encode() for text in last_looks(beside.world, named)]
+
+
+def looks_at_left(act: plain_model.Act, *worlds: plain_model.World) -> Iterator[str]:
+    """Acts that look at size, offset and bytes after a pwrite under append, or after a read or write of more bytes than
+    the profile moves, which goes to a regular file: at each place where the bytes may be in one of these worlds."""
+    process = process_of(worlds[0], act) if is_transfer(act) else None
+    at = process.table.get(act.fields[0]) if process and not process.waits else None
+    if not process or not at or at.pipe or not (is_append(act, at) or is_large(act)):
+        return
+    who, fd = f"p{process.number}", act.fields[0]
+    yield from (f"{who} fstat {fd}", f"{who} lseek {fd} 0 cur")
+    if "r" in at.mode and act.word in ("write", "pwrite"):
+        starts = {start for world in worlds for start in starts_of(act, world)}
+        pieces = [(start + begin, end - begin) for start in sorted(starts) for begin, end in pieces_of(act)]
+        yield from (f"{who} pread {fd} {start} {count}" for start, count in pieces)
+
+
+def starts_of(act: plain_model.Act, world: plain_model.World) -> Iterator[int]:
+    """Where a write may begin in a world: at the end under append, and a pwrite where it is told as well."""
+    process = process_of(world, act)
+    at = process.table.get(act.fields[0]) if process else None
+    if at and not at.pipe:
+        if at.append:
+            yield len(at.regular.data)
+        elif act.word == "write":
+            yield at.offset
+        if act.word == "pwrite":
+            yield max(act.fields[1], 0)
 
 
 def come_back(beside: Settled, seen: int) -> set[int]:

@@ -181,6 +181,66 @@ def reason_is_told(program: str, folder: str, way: str, script: str, line: str, 
     same(f"reason: {reason}", lines[place + 1])
 
 
+# ---- what is left by calls that have a reason
+
+FILED = "join\np0 open a rw,creat\np0 write 0 x616263646566\np0 lseek 0 1 set\n"
+APPENDS = f"{FILED}p0 setfl 0 -,append\np0 pwrite 0 2 x7879\n"
+LATER = f"{FILED}p0 open a w,append\np0 pwrite 1 2 x7879\np0 ftruncate 1 7\n"
+LARGE = f"{FILED}p0 write 0 61*65537\n"
+LARGE_APPENDED = f"{FILED}p0 open a w,append\np0 write 1 61*65600\np0 pwrite 1 3 62*65600\n"
+READS = f"{FILED}p0 ftruncate 0 70000\np0 read 0 80000\np0 pread 0 1 80000\np0 write 0 x7a\n"
+NO_WAIT = "join\np0 pipe\np0 setfl 1 -,nonblock\np0 write 1 61*65600\np0 write 1 61*65600\np0 read 0 70000\n"
+FAR = f"{FILED}p0 lseek 0 2199023255552 set\np0 write 0 x7a\n"
+LATE = "join\njoin\np0 mkfifo f\np1 open f r\np0 open f w,nonblock\np0 open f r,nonblock\np0 open f w,nonblock\n"
+BY_FILES = "lseek past the greatest file of the file system is EINVAL (the system departs; page of lseek)"
+BY_READER = "a FIFO whose reader waits in its open (own; page of open)"
+BY_APPEND = "pwrite under O_APPEND appends (the system departs; page of write (pwrite))"
+BY_COUNT = "more than 65,536 bytes in a call (own; pages of read and write)"
+# Right systems: what they do otherwise has this reason, and nothing is left out of the comparison.
+ALL_COMPARED = [
+    ("appends-pwrite", APPENDS, [BY_APPEND]),
+    ("appends-pwrite", LATER, [BY_APPEND]),
+    ("appends-pwrite", LARGE_APPENDED, [BY_APPEND, BY_COUNT]),
+    ("takes-many-bytes", LARGE, [BY_COUNT]),
+    ("takes-many-bytes", LARGE_APPENDED, [BY_COUNT]),
+    ("takes-many-bytes", READS, [BY_COUNT]),
+    ("takes-many-bytes", NO_WAIT, [BY_COUNT]),
+    ("refuses-far-lseek", FAR, [BY_FILES]),
+    ("opens-after-the-reader", LATE, [BY_READER]),
+]
+# Wrong ones: the same call leaves something else than the reason says.
+LEFT = [
+    ("appends-pwrite-and-moves", APPENDS, "p0 lseek 0 0 cur = 8", "1"),
+    ("appends-pwrite-and-moves", LATER, "p0 lseek 1 0 cur = 8", "0"),
+    ("appends-pwrite-twice", APPENDS, "p0 pread 0 2 2 = x7879", "x6364"),
+    ("appends-pwrite-twice", LATER, "p0 pread 0 0 65536 = x61627879656678", "x61626364656678"),
+    ("appends-other-bytes", APPENDS, "p0 pread 0 6 2 = x7978", "x7879"),
+    ("appends-other-bytes", LATER, "p0 pread 0 0 65536 = x61626364656679", "x61626364656678"),
+    ("many-bytes-but-one", LARGE, "p0 fstat 0 = regular 65537 1", "regular 65538 1"),
+    ("many-bytes-and-another", LARGE, "p0 pread 0 65537 1 = x21", "x61"),
+    ("refuses-far-lseek-and-moves", FAR, "p0 write 0 x7a = error EFBIG", "1"),
+    ("opens-after-the-reader-and-before", LATE, "p1 resume = 0", "still"),
+    ("reads-many-in-place", READS, "p0 lseek 0 0 cur = 1", "70000"),
+]
+
+
+def all_is_compared(program: str, folder: str, way: str, script: str, reasons: Sequence[str]) -> None:
+    """What a call with such a reason leaves is compared, and so is all that comes after it."""
+    done = compared(program, folder, way, script)
+    require(done.status == 0 and b"compared" not in done.stdout, done.said())
+    counted = [line.lstrip(" 0123456789") for line in done.stdout.decode().splitlines() if line.endswith(")")]
+    same(sorted(reasons), sorted(line for line in counted if not line.startswith("reason: ")))
+
+
+def left_is_told(program: str, folder: str, way: str, script: str, line: str, wanted: str) -> None:
+    """A call that leaves something else than its reason says is told as the difference that it makes."""
+    done = compared(program, folder, way, script)
+    lines = done.stdout.decode().splitlines()
+    place = next((place for place, text in enumerate(lines) if text.startswith("system: ")), 0)
+    require(done.status == 1 and lines[place].endswith(f" {line}"), done.said())
+    require(lines[place + 1].endswith(f" = {wanted}") and lines[place + 2] == "reason: none", f"{lines}")
+
+
 # ---- pipes that take less than they have room for
 
 TAKE_LESS = {
@@ -304,6 +364,10 @@ def cases(program: str, folder: str) -> Iterator[Case]:
     yield "turned pipes", partial(turned_is_compared, program, folder)
     for row in LED_ASTRAY:
         yield row[0], partial(name_is_told, program, folder, *row)
+    for way, script, reasons in ALL_COMPARED:
+        yield f"{way}, {script!r}", partial(all_is_compared, program, folder, way, script, reasons)
+    for left in LEFT:
+        yield f"{left[0]}, {left[1]!r}", partial(left_is_told, program, folder, *left)
     for way, script in TAKE_LESS.items():
         yield way, partial(less_is_told, program, folder, way, script)
     for way in ("larger-pipe-buf", "larger-pipe-buf-unseen"):

@@ -151,6 +151,121 @@ def leave_old_name(world: plain_model.World, _: plain_model.Process, old: bytes,
     return "ok"
 
 
+PWRITE, WRITE, READ = plain_model.World.pwrite, plain_model.World.write, plain_model.World.read
+# What a system takes that moves more bytes in a call than the profile.
+MANY = 2**32
+
+
+def appended(world: plain_model.World, process: plain_model.Process, fd: int, start: int, data: bytes) -> object:
+    """A pwrite that goes to the end under append."""
+    at = process.table.get(fd)
+    is_moved = at and at.append and not at.pipe and start >= 0
+    return PWRITE(world, process, fd, len(at.regular.data) if at and is_moved else start, data)
+
+
+def appended_and_moved(world: plain_model.World, process: plain_model.Process, *fields: object) -> object:
+    """One that moves the offset too."""
+    put = appended(world, process, *fields)
+    at = process.table[fields[0]]
+    at.offset = len(at.regular.data) if at.append else at.offset
+    return put
+
+
+def appended_and_put(world: plain_model.World, process: plain_model.Process, *fields: object) -> object:
+    """One that puts the bytes where it was told, too."""
+    appended(world, process, *fields)
+    return PWRITE(world, process, *fields)
+
+
+def appended_otherwise(
+    world: plain_model.World, process: plain_model.Process, fd: int, start: int, data: bytes
+) -> object:
+    """One that puts other bytes at the end."""
+    return appended(world, process, fd, start, bytes(byte ^ 1 for byte in data))
+
+
+def short_write(world: plain_model.World, process: plain_model.Process, fd: int, data: bytes) -> object:
+    """A write of many bytes that leaves out the last one, and tells of all."""
+    left_out = len(data) > plain_model.PIPE_CAPACITY_MOST
+    put = WRITE(world, process, fd, data[:-1] if left_out else data)
+    return put + 1 if left_out and isinstance(put, int) and put else put
+
+
+def holed_write(world: plain_model.World, process: plain_model.Process, fd: int, data: bytes) -> object:
+    """A write of many bytes of which the last is another one."""
+    other = len(data) > plain_model.PIPE_CAPACITY_MOST
+    return WRITE(world, process, fd, data[:-1] + b"!" if other else data)
+
+
+def read_in_place(world: plain_model.World, process: plain_model.Process, fd: int, count: int) -> object:
+    """A read of many bytes that leaves the offset."""
+    at = process.table.get(fd)
+    before = at.offset if at else 0
+    given = READ(world, process, fd, count)
+    if at and count > plain_model.PIPE_CAPACITY_MOST:
+        at.offset = before
+    return given
+
+
+LSEEK, OPEN = plain_model.World.lseek, plain_model.World.open
+FAR = 2**41
+
+
+def near_seek(world: plain_model.World, process: plain_model.Process, fd: int, move: int, whence: str) -> object:
+    """An lseek that is refused past a place."""
+    before = process.table[fd].offset
+    to = LSEEK(world, process, fd, move, whence)
+    if isinstance(to, int) and to >= FAR:
+        process.table[fd].offset = before
+        raise plain_model.Errno("EINVAL")
+    return to
+
+
+def moving_seek(world: plain_model.World, process: plain_model.Process, fd: int, move: int, whence: str) -> object:
+    """One that moves the offset and is refused."""
+    to = LSEEK(world, process, fd, move, whence)
+    plain_model.require(not isinstance(to, int) or to < FAR, "EINVAL")
+    return to
+
+
+def late_open(world: plain_model.World, process: plain_model.Process, name: bytes, flags: str) -> object:
+    """An open of a FIFO for writing that is refused under nonblock while its readers wait in their own opens."""
+    file = world.names.get(name)
+    all_wait = all(
+        isinstance(it.waits, WaitingOpen) and it.waits.fd == fd
+        for it in world.processes.values()
+        for fd, at in it.table.items()
+        if at.file is file and at.mode == "r"
+    )
+    is_late = isinstance(file, plain_model.Fifo) and flags == "w,nonblock" and all_wait
+    plain_model.require(not is_late, "ENXIO")
+    return OPEN(world, process, name, flags)
+
+
+def late_and_made(world: plain_model.World, process: plain_model.Process, name: bytes, flags: str) -> object:
+    """One that is refused and opened all the same."""
+    try:
+        return late_open(world, process, name, flags)
+    except plain_model.Errno as fault:
+        if str(fault) == "ENXIO":
+            OPEN(world, process, name, flags)
+        raise
+
+
+# Systems that move more bytes in a call than the profile, one of them by the standard.
+LARGER: dict[str, list[tuple[type, str, Callable[..., object]]]] = {
+    "takes-many-bytes": [],
+    "many-bytes-but-one": [(plain_model.World, "write", short_write)],
+    "many-bytes-and-another": [(plain_model.World, "write", holed_write)],
+    "reads-many-in-place": [(plain_model.World, "read", read_in_place)],
+}
+# Systems that append a pwrite under append, one of them with no other fault.
+APPENDING: dict[str, list[tuple[type, str, Callable[..., object]]]] = {
+    "appends-pwrite": [(plain_model.World, "pwrite", appended)],
+    "appends-pwrite-and-moves": [(plain_model.World, "pwrite", appended_and_moved)],
+    "appends-pwrite-twice": [(plain_model.World, "pwrite", appended_and_put)],
+    "appends-other-bytes": [(plain_model.World, "pwrite", appended_otherwise)],
+}
 # Systems that are right in what the standard leaves open, and systems that are wrong where a name leads: the functions
 # of the model that they have otherwise.
 OTHERWISE: dict[str, list[tuple[type, str, Callable[..., object]]]] = {
@@ -161,6 +276,12 @@ OTHERWISE: dict[str, list[tuple[type, str, Callable[..., object]]]] = {
     "serves-the-last-first": [(settled_driver.Settled, "take", take_last_first)],
     "turns-pipes": [(plain_model.World, "pipe", turned_pipe)],
     "nonblock-ends-a-read": [(WaitingRead, "is_ready", is_ended), (WaitingRead, "go_on", given_or_ended)],
+    "refuses-far-lseek": [(plain_model.World, "lseek", near_seek)],
+    "refuses-far-lseek-and-moves": [(plain_model.World, "lseek", moving_seek)],
+    "opens-after-the-reader": [(plain_model.World, "open", late_open)],
+    "opens-after-the-reader-and-before": [(plain_model.World, "open", late_and_made)],
+    **LARGER,
+    **APPENDING,
 }
 
 
@@ -183,6 +304,7 @@ def main(words: list[str]) -> int:
         setattr(WaitingWrite, "go_on", lambda call, world: (len(call.data), True))
     for kind, name, function in OTHERWISE.get(way, []):
         setattr(kind, name, function)
+    plain_model.TRANSFER_MAX = MANY if way in LARGER or way in APPENDING else plain_model.TRANSFER_MAX
     limits = plain_model.DEFAULTS
     if way in UNSEEN_FROM:
         has_larger_pipe_buf(UNSEEN_FROM[way])
