@@ -262,6 +262,12 @@ def is_length_too_large(it: Difference) -> bool:
     return it.words("ftruncate") and it.gives("error EFBIG") and it.system == "error EINVAL"
 
 
+def is_unwritable(it: Difference) -> bool:
+    """An ftruncate of a descriptor that is not open for writing, for which the page has both errors."""
+    is_asked = it.words("ftruncate") and it.at is not None and not it.at.pipe and "w" not in it.at.mode
+    return is_asked and it.act.fields[1] >= 0 and it.gives("error EINVAL") and it.system == "error EBADF"
+
+
 def may_give(it: Difference, outcome: str) -> bool:
     """Whether a write of some bytes to a pipe may give this, by its page, whatever room there is.
 
@@ -629,6 +635,7 @@ REASONS = [
     Reason("lseek past the greatest file of the file system is EINVAL", SYSTEM, "page of lseek", is_lseek_past_files),
     Reason("offset and count pass the greatest offset: EINVAL", SYSTEM, "pages of read and write", is_offset_and_count),
     Reason("ftruncate past the size limit is EINVAL, not EFBIG", OWN, "page of ftruncate", is_length_too_large),
+    Reason("ftruncate without writing is EBADF, not EINVAL", OWN, "page of ftruncate", is_unwritable),
     Reason("names that the profile does not take", OWN, "XBD 3, Portable Filename Character Set", is_own_name),
     Reason("ftruncate of a pipe", OWN, "page of ftruncate", is_ftruncate_of_pipe),
     Reason("order of refusals, where several are due", OWN, "XSH 2.3", is_order),

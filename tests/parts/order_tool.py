@@ -134,6 +134,11 @@ CHOICES += [
     (FILED, f"4 5 p0 ftruncate 0 {2**40 + 1} = error EINVAL", "error EFBIG", LENGTH),
     (FILED, f"4 5 p0 ftruncate 7 {2**40 + 1} = error EINVAL", "error EBADF", REFUSALS),
 ]
+UNWRITABLE = "ftruncate without writing is EBADF, not EINVAL (own; page of ftruncate)"
+CHOICES += [
+    (f"{JOINED}2 3 p0 open a r,creat = 0\n", "4 5 p0 ftruncate 0 9 = error EBADF", "error EINVAL", UNWRITABLE),
+    (f"{JOINED}2 3 p0 open a r,creat = 0\n", "4 5 p0 ftruncate 0 -1 = error EBADF", "error EINVAL", REFUSALS),
+]
 # What differs of one call after another without being such a choice, what fdref answers, and what is told of it.
 APPENDED = f"{JOINED}2 3 p0 open a rw,creat,append = 0\n4 5 p0 pwrite 0 0 x61 = 1\n6 7 p0 pwrite 0 0 x62 = 1\n"
 APPEND = "pwrite under O_APPEND appends (the system departs; page of write (pwrite))"
