@@ -51,6 +51,7 @@ from support.summaries import Counts, add_summary
 from support.texts import several
 
 from compare_instead import ways
+from compare_limits import FEWER
 from compare_lines import Asked, first_unfit, in_other_order, is_at_once, moved
 from compare_reasons import OWN, REASONS, Difference, Reason, appended_to, follows_append, process_of
 from compare_reasons import reason_of, told_reason
@@ -242,7 +243,7 @@ AT_ONCE = Reason("PIPE_BUF is more than 512 bytes", OWN, "pages of limits.h and 
 def reason_in(asked: Asked, difference: Difference) -> Reason | None:
     """The first reason that fits a difference."""
     is_measured = AT_ONCE.fits(difference) and is_at_once(asked, difference.lines, difference.place)
-    return AT_ONCE if is_measured else reason_of(difference)
+    return AT_ONCE if is_measured else reason_of(difference) or (FEWER if FEWER.fits(difference) else None)
 
 
 # ---- telling
@@ -361,7 +362,7 @@ class Totals:
         """The last lines."""
         differences = several(self.by_reason.total() + self.unexplained, "difference")
         lines = [f"{several(self.scripts, 'script')}, {several(self.calls, 'call')}, {differences}"]
-        met = [it for it in (AT_ONCE, *REASONS) if self.by_reason[it.name]]
+        met = [it for it in (AT_ONCE, *REASONS, FEWER) if self.by_reason[it.name]]
         lines += [f"{self.by_reason[it.name]:8} {it.name} ({it.who}; {it.page})" for it in met]
         lines += [f"{self.unexplained:8} without a reason"]
         lines += [f"{self.failed:8} not compared"] if self.failed else []

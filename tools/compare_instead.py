@@ -1,8 +1,8 @@
 """Acts that fdref is given instead of one that a system answers otherwise, where the reason says all that the system
 has to have done: so what the call left is compared, and so is all that comes after it.
 
-A pwrite that a system appends is one at the end. A call of more bytes than fdref takes is several, and an lseek or open
-that a system refuses is none.
+A pwrite that a system appends is one at the end. A call of more bytes than fdref takes is several, and what a system
+refuses changes nothing.
 """
 
 from collections.abc import Iterator
@@ -10,6 +10,7 @@ from collections.abc import Iterator
 from support import plain_model
 from support.plain_model import TRANSFER_MAX, Act, Description, Process, Reply, World
 
+from compare_limits import is_fewer_descriptors
 from compare_reasons import READ_MOST, Difference, follows_append, is_append, is_count, is_lseek_past_files
 from compare_reasons import is_pwrite_appended, is_reader_waiting, process_of
 from compare_runs import act_of
@@ -64,7 +65,7 @@ def is_large(act: Act) -> bool:
 def ways(it: Difference) -> Iterator[tuple[int, list[Act]]]:
     """What fdref may be given instead of an act for the reason of a difference, with the place of that act."""
     fits = it.reason.fits if it.reason else None
-    if fits in (is_lseek_past_files, is_reader_waiting):
+    if fits in (is_lseek_past_files, is_reader_waiting, is_fewer_descriptors):
         yield it.place, []
     elif fits is is_pwrite_appended and follows_append(it):
         before = plain_model.read_act(act_of(it.lines[it.place - 1]).encode())

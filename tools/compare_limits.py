@@ -164,11 +164,11 @@ def is_long_name(it: Difference) -> bool:
     return is_past and is_one_limit(it, names_told)
 
 
-# Reasons by limits of a system, which the standard leaves open. Scripts that are compared do not have them: what runs
-# them sets the limits of the profile.
+# Reasons by limits of a system, which the standard leaves open. Scripts that are compared have the first alone: what runs
+# them sets the limits of the profile, where the system has as many descriptors.
 LIMITS = [
-    Reason("more than 32 descriptors", OWN, "XBD limits.h, OPEN_MAX", is_more_descriptors),
     Reason("fewer than 32 descriptors", OWN, "XBD limits.h, _POSIX_OPEN_MAX", is_fewer_descriptors),
+    Reason("more than 32 descriptors", OWN, "XBD limits.h, OPEN_MAX", is_more_descriptors),
     Reason("more than 1,099,511,627,776 bytes in a file", OWN, "page of write", is_larger_file),
     Reason("fewer than 1,099,511,627,776 bytes in a file", OWN, "XBD limits.h, FILESIZEBITS", is_smaller_file),
     Reason("no space in the file system", OWN, "pages of open, mkfifo, link, rename and write", is_no_space),
@@ -176,6 +176,9 @@ LIMITS = [
     Reason("no room for a child", OWN, "page of fork", is_no_process),
     Reason("names of at most 64 bytes that are too long", OWN, "XBD limits.h, _POSIX_NAME_MAX", is_long_name),
 ]
+
+
+FEWER = LIMITS[0]
 
 
 def reason_or_limit(difference: Difference) -> Reason | None:

@@ -192,6 +192,9 @@ READS = f"{FILED}p0 ftruncate 0 70000\np0 read 0 80000\np0 pread 0 1 80000\np0 w
 NO_WAIT = "join\np0 pipe\np0 setfl 1 -,nonblock\np0 write 1 61*65600\np0 write 1 61*65600\np0 read 0 70000\n"
 FAR = f"{FILED}p0 lseek 0 2199023255552 set\np0 write 0 x7a\n"
 LATE = "join\njoin\np0 mkfifo f\np1 open f r\np0 open f w,nonblock\np0 open f r,nonblock\np0 open f w,nonblock\n"
+MANY_OPEN = f"{FILED}" + "".join(f"p0 dup2 0 {fd}\n" for fd in range(1, 20))
+FEW = f"{MANY_OPEN}p0 open a r\np0 dup 0\np0 pipe\np0 dup2 0 25\np0 close 25\np0 close 3\np0 open a r\n"
+BY_OPEN_MAX = "fewer than 32 descriptors (own; XBD limits.h, _POSIX_OPEN_MAX)"
 BY_FILES = "lseek past the greatest file of the file system is EINVAL (the system departs; page of lseek)"
 BY_READER = "a FIFO whose reader waits in its open (own; page of open)"
 BY_APPEND = "pwrite under O_APPEND appends (the system departs; page of write (pwrite))"
@@ -207,6 +210,7 @@ ALL_COMPARED = [
     ("takes-many-bytes", NO_WAIT, [BY_COUNT]),
     ("refuses-far-lseek", FAR, [BY_FILES]),
     ("opens-after-the-reader", LATE, [BY_READER]),
+    ("has-20-descriptors", FEW, [BY_OPEN_MAX]),
 ]
 # Wrong ones: the same call leaves something else than the reason says.
 LEFT = [
@@ -220,6 +224,7 @@ LEFT = [
     ("many-bytes-and-another", LARGE, "p0 pread 0 65537 1 = x21", "x61"),
     ("refuses-far-lseek-and-moves", FAR, "p0 write 0 x7a = error EFBIG", "1"),
     ("opens-after-the-reader-and-before", LATE, "p1 resume = 0", "still"),
+    ("has-20-descriptors-and-25", FEW, "p0 open a r = error EMFILE", "20"),
     ("reads-many-in-place", READS, "p0 lseek 0 0 cur = 1", "70000"),
 ]
 

@@ -252,6 +252,24 @@ def late_and_made(world: plain_model.World, process: plain_model.Process, name: 
         raise
 
 
+LOWEST, DUP2 = plain_model.lowest_free, plain_model.World.dup2
+# Descriptors of a system that has as few as each system has.
+FEW = 20
+
+
+def few(process: plain_model.Process, count: int = 1) -> list[int]:
+    """The lowest free descriptors of few."""
+    found = LOWEST(process, count)
+    plain_model.require(found[-1] < FEW, "EMFILE")
+    return found
+
+
+def few_to(world: plain_model.World, process: plain_model.Process, fd: int, to: int) -> object:
+    """A dup2 to one of few."""
+    plain_model.require(to < FEW, "EBADF")
+    return DUP2(world, process, fd, to)
+
+
 # Systems that move more bytes in a call than the profile, one of them by the standard.
 LARGER: dict[str, list[tuple[type, str, Callable[..., object]]]] = {
     "takes-many-bytes": [],
@@ -280,6 +298,8 @@ OTHERWISE: dict[str, list[tuple[type, str, Callable[..., object]]]] = {
     "refuses-far-lseek-and-moves": [(plain_model.World, "lseek", moving_seek)],
     "opens-after-the-reader": [(plain_model.World, "open", late_open)],
     "opens-after-the-reader-and-before": [(plain_model.World, "open", late_and_made)],
+    "has-20-descriptors": [(plain_model, "lowest_free", few), (plain_model.World, "dup2", few_to)],
+    "has-20-descriptors-and-25": [(plain_model, "lowest_free", few)],
     **LARGER,
     **APPENDING,
 }
