@@ -13,7 +13,7 @@ from support import plain_model
 from support.commands import ChosenLimits
 from support.histories import UNKNOWN, WAITS, Noted
 from support.ordering import ROOMY, Explained, explain
-from support.plain_model import Limits, World
+from support.plain_model import Limits, Pipe, World
 from support.replaying import Differs, is_waiting, replayed
 from support.runs import Line, Settled, line_of
 from support.searching import FOREVER, Step
@@ -91,6 +91,8 @@ class Beside:
         self.run = Settled(limits)
         self.run.world = world(limits)
         self.answers: list[str] = []
+        # how many bytes each pipe was seen to hold
+        self.held: dict[Pipe, int] = {}
         # the call in which each process waits, by its place
         self.waiting: dict[int, int] = {}
         for noted in history:
@@ -106,8 +108,12 @@ class Beside:
             self.answers.append(UNKNOWN)
             return
         seen = len(self.run.lines)
+        process = self.run.world.processes.get(noted.process)
+        at = process.table.get(noted.act.fields[0]) if process and noted.act.word == "write" else None
         self.run.take(noted.act)
-        first, *resumes = self.lines()[seen:]
+        if at and at.pipe and noted.outcome == str(len(noted.act.fields[1])):
+            self.held[at.pipe] = max(self.held.get(at.pipe, 0), len(at.pipe.data))
+        first, *resumes = map(read_line, self.run.lines[seen:])
         if is_waiting(first.outcome):
             self.waiting[first.number()] = len(self.answers)
         self.answers.append(first.outcome)
@@ -117,7 +123,12 @@ class Beside:
 
     def lines(self) -> list[Line]:
         """The lines of the run."""
-        return [line_of(text.rstrip("\n")) for text in self.run.lines]
+        return list(map(read_line, self.run.lines))
+
+
+def read_line(text: str) -> Line:
+    """A line of a run."""
+    return line_of(text.rstrip("\n"))
 
 
 def is_given(noted: Noted, answer: str) -> bool:
@@ -146,8 +157,9 @@ def apart_at(
 ) -> Apart:
     """A call that the model answers otherwise, as are the known ones up to it."""
     lines = [Line(str(at), plain_model.act_text(noted.act), noted.outcome) for at, noted in enumerate(history)]
-    world = Beside(history[:place], limits).run.world
-    difference = Difference(place, lines, lines[place], lines[place]._replace(outcome=answer), world)
+    beside = Beside(history[:place], limits)
+    difference = Difference(place, lines, lines[place], lines[place]._replace(outcome=answer), beside.run.world)
+    difference.room_seen = beside.held.get(difference.at.pipe, 0) if difference.at and difference.at.pipe else 0
     difference.has_same_room = isinstance(limits, ChosenLimits)
     reason = why(difference)
     # what the fstat after such a pwrite tells has to follow from all of them

@@ -157,6 +157,7 @@ def difference_at(asked: Asked, beside: Beside, fdref: list[Line], place: int) -
     system = beside.lines
     difference = Difference(place, system, system[place], fdref[place], beside.world_before(place))
     difference.has_same_room, difference.counts_bytes = asked.has_same_room, asked.counts_bytes
+    difference.room_seen = asked.room_seen
     difference.size_before, difference.ended = beside.sizes.get(place - 1), beside.ended
     difference.for_fdref = {at: beside.known.given(system, at) for at in beside.known.instead}
     difference.reason = reason_in(asked, difference)

@@ -16,6 +16,8 @@ from compare_runs import Known, bytes_of_write, ends_of_closing, is_told_back, p
 from compare_turns import moves_of, with_moves, without_moves
 
 SECONDS = 120
+# Systems give a pipe memory in pages of so many bytes.
+PAGE = 4_096
 ORDERS_MOST = 150
 # How many sizes of writes are tried in one run.
 SIZES_AT_ONCE = 16
@@ -81,6 +83,7 @@ class Asked:
         room = self.room()
         self.has_same_room = room == limits.capacity
         self.counts_bytes = self.room(3_000, 3_000) == room
+        self.room_seen = room if self.counts_bytes else max(room // 2 - PAGE, 0)
         self.pipe_buf = self.most_at_once() if self.has_same_room and self.counts_bytes else PIPE_BUF
 
     def run(self, words: list[str], script: bytes, who: str) -> bytes:

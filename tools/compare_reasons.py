@@ -11,11 +11,9 @@ from support import plain_model, walks
 from support.plain_model import LINK_MAX, NAME_MAX, OFFSET_MAX, OPEN_MAX, PIPE_BUF, TRANSFER_MAX
 from support.runs import Line
 
-from compare_lines import is_moved, moved
+from compare_lines import PAGE, is_moved, moved
 from compare_runs import act_of
 
-# Systems give a pipe memory in pages of so many bytes.
-PAGE = 4_096
 # How many bytes of a read the driver sees at most.
 READ_MOST = 1_048_576
 # A name of the portable filename character set.
@@ -45,6 +43,8 @@ class Difference:
         self.is_followed = False
         # what is known of the pipes of the system: that they hold as many bytes as fdref's, and that they have no pages
         self.has_same_room = self.counts_bytes = False
+        # how many bytes it was seen to hold, in whatever pieces they came
+        self.room_seen = 0
         # whether it is a pipe whose ends have changed places since
         self.is_exchanged = False
         # how long the file was before the pwrite under append that it follows, if that is known
@@ -292,6 +292,8 @@ def is_room(it: Difference) -> bool:
         return False
     whole, held = it.count(), len(it.at.pipe.data)
     is_less = it.system != str(whole) and held + whole > PIPE_BUF
+    if it.system != str(whole) and held + whole <= it.room_seen:
+        return False
     has_other_room = held + whole > it.at.pipe.capacity or is_less
     return has_other_room and is_moved(it.fdref) and may_give(it, it.system)
 

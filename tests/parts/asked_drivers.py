@@ -261,6 +261,23 @@ def less_is_told(program: str, folder: str, way: str, script: str) -> None:
     same((1, ["reason: none"]), (done.status, reasons))
 
 
+# Scripts in which a writer waits, or is refused, beside the bytes of another one, and the last line that is told.
+BESIDE = [
+    (f"{FORKED}p0 write 1 61*600\np1 write 1 62*100\n", "p1 write 1 62*100 = parked 0", "100"),
+    (f"{FORKED}p0 write 1 61*600\np1 setfl 1 -,nonblock\np1 write 1 x62\n", "p1 write 1 x62 = error EAGAIN", "1"),
+]
+
+
+def beside_is_told(program: str, folder: str, script: str, line: str, wanted: str) -> None:
+    """A pipe that was seen to have room for the bytes of a write has no reason to let it wait, or to refuse it."""
+    same(0, compared(program, folder, "has-larger-pipes", script).status)
+    done = compared(program, folder, "waits-beside-room", script)
+    lines = done.stdout.decode().splitlines()
+    place = next((place for place, text in enumerate(lines) if text.startswith("system: ")), 0)
+    require(done.status == 1 and lines[place].endswith(f" {line}"), done.said())
+    require(lines[place + 1].endswith(f" = {wanted}") and lines[place + 2] == "reason: none", f"{lines}")
+
+
 # ---- a larger PIPE_BUF
 
 # What a system with pipes of 4,096 bytes and such a PIPE_BUF does otherwise, and is right in.
@@ -375,6 +392,8 @@ def cases(program: str, folder: str) -> Iterator[Case]:
         yield f"{left[0]}, {left[1]!r}", partial(left_is_told, program, folder, *left)
     for way, script in TAKE_LESS.items():
         yield way, partial(less_is_told, program, folder, way, script)
+    for beside in BESIDE:
+        yield f"waits-beside-room {beside[0]!r}", partial(beside_is_told, program, folder, *beside)
     for way in ("larger-pipe-buf", "larger-pipe-buf-unseen"):
         for script, act in AT_ONCE.items():
             yield f"{way} {script!r}", partial(is_by_pipe_buf, program, folder, way, script, act)

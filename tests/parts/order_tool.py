@@ -187,6 +187,9 @@ UNROOMY = [
     (HELD, "20 21 p0 write 1 61*600 = error EAGAIN", "parked 24"),
     (HELD, "20 21 p0 write 1 61*600 = 24", "parked 24"),
     (f"{PIPED}4 5 p0 setfl 1 -,nonblock = ok\n", "20 21 p0 write 1 61*2000 = 511", "1024"),
+    # what was seen to have room for as many bytes
+    (f"{HELD_NONBLOCK}8 9 p0 read 0 450 = 61*450\n", "20 21 p0 write 1 61*100 = error EAGAIN", "100"),
+    (f"{HELD_NONBLOCK}8 9 p0 read 0 700 = 61*700\n", "20 21 p0 write 1 61*600 = 1", "600"),
 ]
 # Writes to a pipe with less room than in fdref, which is asked with more.
 LESS_ROOM = [

@@ -81,6 +81,8 @@ TAKE_LESS: dict[str, Callable[[str], str]] = {
 }
 
 
+# The pipes of systems that have other ones than the profile.
+ROOMY = {way: plain_model.Limits(capacity=16_384) for way in ("has-larger-pipes", "waits-beside-room")}
 # Systems that are right, with pipes of 4,096 bytes and a larger PIPE_BUF: from how many bytes on a write that waits is
 # told as one of which it is not seen how much went in.
 LARGER_PIPE_BUF, UNSEEN_FROM = 4_096, {"larger-pipe-buf": 4_097, "larger-pipe-buf-unseen": 513}
@@ -270,6 +272,16 @@ def few_to(world: plain_model.World, process: plain_model.Process, fd: int, to: 
     return DUP2(world, process, fd, to)
 
 
+def waits_beside(world: plain_model.World, process: plain_model.Process, fd: int, data: bytes) -> object:
+    """A write that waits though its bytes fit, where the pipe has many."""
+    at = process.table.get(fd)
+    if at and at.pipe and len(data) < 200 and len(at.pipe.data) > 500:
+        plain_model.require(not at.nonblock, "EAGAIN")
+        process.waits = WaitingWrite(at.pipe, data)
+        return 0
+    return WRITE(world, process, fd, data)
+
+
 # Systems that move more bytes in a call than the profile, one of them by the standard.
 LARGER: dict[str, list[tuple[type, str, Callable[..., object]]]] = {
     "takes-many-bytes": [],
@@ -300,6 +312,11 @@ OTHERWISE: dict[str, list[tuple[type, str, Callable[..., object]]]] = {
     "opens-after-the-reader-and-before": [(plain_model.World, "open", late_and_made)],
     "has-20-descriptors": [(plain_model, "lowest_free", few), (plain_model.World, "dup2", few_to)],
     "has-20-descriptors-and-25": [(plain_model, "lowest_free", few)],
+    "has-larger-pipes": [],
+    "waits-beside-room": [
+        (plain_model.World, "write", waits_beside),
+        (WaitingWrite, "is_ready", lambda call, world: not world.has_end(call.pipe, "r")),
+    ],
     **LARGER,
     **APPENDING,
 }
@@ -325,7 +342,7 @@ def main(words: list[str]) -> int:
     for kind, name, function in OTHERWISE.get(way, []):
         setattr(kind, name, function)
     plain_model.TRANSFER_MAX = MANY if way in LARGER or way in APPENDING else plain_model.TRANSFER_MAX
-    limits = plain_model.DEFAULTS
+    limits = ROOMY.get(way, plain_model.DEFAULTS)
     if way in UNSEEN_FROM:
         has_larger_pipe_buf(UNSEEN_FROM[way])
         limits = plain_model.Limits(capacity=LARGER_PIPE_BUF)
