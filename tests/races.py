@@ -470,6 +470,9 @@ def reason_cases() -> Iterator[Case]:
     yield "a read under the lock of one offset", partial(has_reason, SHARED, *shared, None)
     large = "100 900 p0 write 1 62*1000 = 1000"
     yield "a larger pipe", partial(has_reason, PIPED, large, "200 300 p1 fork = 2", "room of a pipe (own)")
+    torn = "100 900 p0 write 1 61*600 = 600", "200 300 p1 read 0 100 = 61*100\n400 500 p1 read 0 600 = 61*400"
+    yield "a write in parts", partial(has_reason, PIPED[:-1], *torn, "a write of more than 512 bytes in parts (own)")
+    yield "a small one in parts", partial(has_reason, PIPED[:-1], *(it.replace("61*600 = 600", "61*512 = 512") for it in torn), None)
     yield "a larger pipe, in vain", partial(has_reason, PIPED, large, "200 300 p1 read 0 2 = x6162", None)
 
 

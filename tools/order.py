@@ -16,8 +16,9 @@ each resume.
 In fdref a pipe has room for 1,024 bytes, or for as many as --pipe-capacity says. Without that, where no order explains
 a history with a pipe or FIFO, one is searched for with pipes of 65,536 bytes, and run through `fdref replay
 --pipe-capacity 65536`. If there is one the history has a reason, `room of a pipe (own)`: the standard leaves it open.
-So it does which end of a pipe has the lower number. Where that is the writing one, dup2 and close are added, and the
-ends change places.
+So it does in how many parts a write of more than 512 bytes goes into a pipe, and an order of such parts is searched for
+then: `a write of more than 512 bytes in parts (own)`. And so it does which end of a pipe has the lower number. Where
+that is the writing one, dup2 and close are added, and the ends change places.
 
 So has a history in which no calls overlap, where each call that fdref answers otherwise has one of tools/compare.py
 that is its own choice. After the first that succeeds in one of the two alone, the rest is not compared; that is told.
@@ -49,11 +50,13 @@ from support.ordering import (
     ROOMY,
     SECONDS,
     STATES_MOST,
+    ByParts,
     ByRoom,
     Explained,
     GivenUp,
     Result,
     Unexplained,
+    by_parts,
     by_room,
     explain,
 )
@@ -70,6 +73,9 @@ from compare_reasons import OWN, told_reason
 
 # The reason of a history that only larger pipes explain.
 BY_ROOM = "reason: room of a pipe (own; page of write)"
+# What is told of a history that only writes explain that go in by parts, and its reason.
+IN_PARTS = "where writes of more than 512 bytes to a pipe go in by parts"
+BY_PARTS = "reason: a write of more than 512 bytes in parts (own; page of write)"
 # What is told of a history in which the writing end of a pipe has the lower number.
 TURNED = "where the ends of a pipe change places, by dup2 and close"
 BY_TURN = "reason: which end of a pipe has the lower number (own; page of pipe)"
@@ -87,6 +93,9 @@ class Chosen(NamedTuple):
     told: str
 
 
+Answer = Result | ByRoom | ByParts | Chosen
+
+
 class Orders:
     """The histories that were looked at, with the answer to each form that was met."""
 
@@ -96,8 +105,8 @@ class Orders:
         self.is_one = is_one
         # whether it is known how many bytes a pipe of the system holds
         self.has_room = isinstance(args.limits, ChosenLimits)
-        self.known: dict[tuple[object, ...], tuple[int, Result | ByRoom | Chosen]] = {}
-        self.counts = {Explained: 0, Unexplained: 0, GivenUp: 0, ByRoom: 0, Chosen: 0}
+        self.known: dict[tuple[object, ...], tuple[int, Answer]] = {}
+        self.counts = {Explained: 0, Unexplained: 0, GivenUp: 0, ByRoom: 0, ByParts: 0, Chosen: 0}
 
     def answer(self, number: int, history: Sequence[Noted]) -> None:
         """Answers for a history, and prints what is to be told of it."""
@@ -115,10 +124,10 @@ class Orders:
             told = self.unordered(history, result) if is_new else f"as history {first}\n"
         if exchanged and is_new:
             told += (NOT_BY_TURN if isinstance(result, Unexplained) else BY_TURN) + "\n"
-        if not (self.args.quiet and (isinstance(result, Explained | ByRoom | Chosen) or not is_new)):
+        if not (self.args.quiet and (isinstance(result, Explained | ByRoom | ByParts | Chosen) or not is_new)):
             print(("" if self.is_one else f"history {number}: ") + told, end="", flush=True)
 
-    def found_turned(self, history: Sequence[Noted]) -> Result | ByRoom | Chosen:
+    def found_turned(self, history: Sequence[Noted]) -> Answer:
         """Whether an order explains a history in which the ends of a pipe change places: that is a choice."""
         result = self.found(history)
         if not isinstance(result, Explained):
@@ -126,13 +135,16 @@ class Orders:
         lines = verified(self.program, history, result.steps, self.args.limits)
         return Chosen("\n".join([f"an order explains it {TURNED}", *map(moved_line, lines), ""]))
 
-    def found(self, history: Sequence[Noted]) -> Result | ByRoom | Chosen:
-        """Whether an order explains a history, with pipes as they are in fdref or with larger ones, and if not why."""
+    def found(self, history: Sequence[Noted]) -> Answer:
+        """Whether an order explains a history, with pipes as they are in fdref or with larger ones, with writes to them
+        that go in at once or by parts, and if not why."""
         most = self.args.states, self.args.seconds
         result = explain(history, *most, shrink_seconds=0, limits=self.args.limits)
         if not isinstance(result, Unexplained):
             return result
-        return (None if self.has_room else by_room(history, *most)) or self.unexplained(history)
+        rooms = (self.args.limits,) if self.has_room else (self.args.limits, ROOMY)
+        found = None if self.has_room else by_room(history, *most)
+        return found or by_parts(history, *most, *rooms) or self.unexplained(history)
 
     def unexplained(self, history: Sequence[Noted]) -> Result | Chosen:
         """Why no order explains a history."""
@@ -192,7 +204,7 @@ class Orders:
         lines = verified(self.program, history, result.steps, self.args.limits)
         return "an order explains it\n" + "".join(f"{line.place} {line.act} = {line.outcome}\n" for line in lines)
 
-    def unordered(self, history: Sequence[Noted], result: Result | ByRoom | Chosen) -> str:
+    def unordered(self, history: Sequence[Noted], result: Answer) -> str:
         """What is told of a history without an order, or of one that was given up."""
         if isinstance(result, Chosen):
             return result.told
@@ -200,6 +212,10 @@ class Orders:
             lines = verified(self.program, history, result.steps, ROOMY)
             told = [f"an order explains it {WHERE_ROOMY}"]
             return "\n".join([*told, *map(moved_line, lines), BY_ROOM, ""])
+        if isinstance(result, ByParts):
+            lines = verified(self.program, result.history, result.steps, result.limits)
+            told = [f"an order explains it {IN_PARTS}"]
+            return "\n".join([*told, *map(moved_line, lines), BY_PARTS, ""])
         if not isinstance(result, Unexplained):
             return f"given up after {several(result.states, 'state')}\n" if isinstance(result, GivenUp) else ""
         parts = ["no order explains it, nor this part of it:", indented(result.shrunk)]
@@ -208,9 +224,10 @@ class Orders:
 
     def totals(self) -> str:
         """The last line."""
-        explained, unexplained, given_up, roomy, chosen = self.counts.values()
+        explained, unexplained, given_up, roomy, parted, chosen = self.counts.values()
         text = f"histories {sum(self.counts.values())} explained {explained} unexplained {unexplained} "
         text += f"given up {given_up}" + (f" room of a pipe {roomy}" if roomy else "")
+        text += f" writes in parts {parted}" if parted else ""
         return text + (f" other choices {chosen}" if chosen else "")
 
     def status(self) -> int:

@@ -164,6 +164,15 @@ class RoomReason(Reason):
         return not is_known and ordering.by_room(race.history, STATES_MOST, SEARCH_SECONDS) is not None
 
 
+class PartsReason(Reason):
+    """The reason that a large write to a pipe goes in by parts: an order explains all with other calls between them."""
+
+    def fits(self, race: Race) -> bool:
+        """Whether an order explains a history with such parts, also where pipes are larger, if that may be."""
+        rooms = [race.limits] if isinstance(race.limits, ChosenLimits) else [race.limits, ordering.ROOMY]
+        return ordering.by_parts(race.history, STATES_MOST, SEARCH_SECONDS, *rooms) is not None
+
+
 class LinkReason(Reason):
     """The reason that a link is made in two halves: an order explains all where another call may come between."""
 
@@ -226,6 +235,7 @@ REASONS = [
     Reason("a read gives a part of what is written meanwhile", "XSH 2.9.7; pages of read and write", is_torn),
     Reason("both at once", "XSH 2.9.7", is_either),
     RoomReason("room of a pipe (own)", "page of write", is_never),
+    PartsReason("a write of more than 512 bytes in parts (own)", "page of write", is_never),
 ]
 
 

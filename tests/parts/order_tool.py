@@ -507,6 +507,40 @@ def not_built() -> str:
         return str(fault)
 
 
+# Two writes at once of which one goes in by two parts, and one that goes in while it is read; what is told of them.
+THREE = f"{PIPED}4 5 p0 fork = 1\n6 7 p1 attach = ok\n8 9 p0 fork = 2\n10 11 p2 attach = ok\n"
+TORN = f"{THREE}20 40 p0 write 1 61*600 = 600\n20 40 p1 write 1 62*513 = 513\n"
+TORN_READS = "50 51 p2 read 0 400 = 61*400\n52 53 p2 read 0 600 = x" + "62" * 513 + "61" * 87 + "\n"
+SLOW = f"{THREE}10 80 p0 write 1 61*600 = 600\n20 21 p1 read 0 600 = 61*300\n30 31 p1 read 0 600 = 61*300\n"
+BY_PARTS = "reason: a write of more than 512 bytes in parts (own; page of write)"
+IN_PARTS = [
+    (f"{TORN}{TORN_READS}54 55 p2 read 0 600 = 61*113\n", f"  p2 read 0 600 = 61*113\n{BY_PARTS}"),
+    (SLOW.replace("10 80 p0", "12 80 p0"), f"  p1 resume = 61*300\n{BY_PARTS}"),
+    (
+        f"{THREE}12 13 p0 setfl 1 -,nonblock = ok\n{TORN[len(THREE) :]}{TORN_READS}",
+        f"  p2 read 0 600 = x{'62' * 513}{'61' * 87}\n{BY_PARTS}",
+    ),
+]
+# The nearest of them that no parts explain: a byte is lost, small writes are torn, and a write to a file is.
+NOT_IN_PARTS = [
+    f"{TORN}{TORN_READS}54 55 p2 read 0 600 = 61*112\n56 - p2 read 0 1 = parked ?\n",
+    f"{THREE}20 40 p0 write 1 61*512 = 512\n20 40 p1 write 1 62*500 = 500\n50 51 p2 read 0 400 = 61*400\n"
+    "52 53 p2 read 0 500 = 62*500\n",
+    f"{FILED}4 5 p0 fork = 1\n6 7 p1 attach = ok\n20 40 p0 write 0 61*600 = 600\n20 40 p1 write 0 62*600 = 600\n"
+    "50 51 p0 lseek 0 0 set = 0\n52 53 p0 read 0 400 = 61*400\n54 55 p0 read 0 600 = 62*600\n",
+]
+
+
+def part_cases(program: str) -> Iterator[Case]:
+    """What is told of writes of more than PIPE_BUF bytes that go in by parts."""
+    for text, end in IN_PARTS:
+        yield f"in parts: {text}", partial(ends_with, program, text, 0, end)
+    for text in NOT_IN_PARTS:
+        yield f"in no parts: {text}", partial(fails, program, text, 1, "no order explains it")
+    counted = "histories 2 explained 1 unexplained 0 given up 0 writes in parts 1"
+    yield "in parts, counted", partial(ends_with, program, f"{IN_PARTS[1][0]}\n{GOOD}", 0, counted)
+
+
 def finds_a_wrong_program(program: str) -> None:
     """A program that is not what the plain model is, in an answer or where a call waits, is told."""
     with tempfile.TemporaryDirectory(prefix="fdref-") as folder:
@@ -552,6 +586,7 @@ def cases(program: str) -> Iterator[Case]:
     both += "histories 2 explained 1 unexplained 0 given up 0 room of a pipe 1\n"
     yield "a larger pipe, counted", partial(prints, program, f"{ROOMY}\n{GOOD}", 0, both)
     yield from capacity_cases(program)
+    yield from part_cases(program)
     wrong = ROOMY.replace("70 80 p0 write 1 61*600 = 600", "70 80 p0 read 0 9 = x")
     yield "a larger pipe, in vain", partial(fails, program, wrong, 1, "no order explains it")
     yield "quiet", partial(prints, program, four, 1, f"history 2: {BAD_LINES}{totals}", "--quiet")

@@ -14,7 +14,7 @@
 - `histories`: what several processes did at once, call by call, with the times
 - `ordering`: whether an order explains a history; `searching` looks for it, by states (`worlds`), by what calls touch
   (`footprints`), by what later answers tell (`foretold`) and by what nobody looks at (`unseen`); `shortening` makes
-  short what has none; `replaying` holds an order against the program
+  short what has none, and `pieces` parts large writes; `replaying` holds an order against the program
 - `outcomes`: a search of all that a race may answer
 - `summaries` and `tallies`: what runs that are shared out have counted
 - `call_logs`: the logs of the library for LD_PRELOAD; `trees`: a program with all that comes of it

@@ -12,6 +12,7 @@ from typing import NamedTuple
 from support.footprints import Footprints, Opened
 from support.histories import WAITS, Noted
 from support.late_links import late_links
+from support.pieces import are_of_pipes, in_parts
 from support.plain_model import DEFAULTS, PIPE_BUF, PIPE_CAPACITY_MOST, Limits
 from support.searching import Search, Step, TooLong
 from support.shortening import Shortening
@@ -37,6 +38,15 @@ class ByRoom(NamedTuple):
     """A history that an order explains only where a pipe has the room of ROOMY: the steps of that order."""
 
     steps: list[Step]
+
+
+class ByParts(NamedTuple):
+    """A history that an order explains only where writes of more than PIPE_BUF bytes to a pipe go in by parts: the
+    history of these parts, the steps of that order, and the limits of its run."""
+
+    history: list[Noted]
+    steps: list[Step]
+    limits: Limits
 
 
 class Unexplained(NamedTuple):
@@ -86,6 +96,19 @@ def by_room(history: Sequence[Noted], states_most: int = STATES_MOST, seconds: f
         return None
     result = explain(history, states_most, seconds, 0, ROOMY)
     return ByRoom(result.steps) if isinstance(result, Explained) else None
+
+
+def by_parts(
+    history: Sequence[Noted], states_most: int = STATES_MOST, seconds: float = SECONDS, *limits: Limits
+) -> ByParts | None:
+    """An order of a history that explains it where large writes to a pipe go in by parts, if there is one, in a run of
+    the first of these limits that has one."""
+    parted = in_parts(sorted(history, key=lambda noted: noted.start))
+    for one in limits if parted else ():
+        result = explain(parted or [], states_most, seconds, 0, one)
+        if isinstance(result, Explained) and are_of_pipes(history, result.steps, one):
+            return ByParts(parted or [], result.steps, one)
+    return None
 
 
 def by_late_links(history: Sequence[Noted], states_most: int = STATES_MOST, seconds: float = SECONDS) -> bool:

@@ -1,0 +1,88 @@
+"""Histories in which a write of more than PIPE_BUF bytes to a pipe goes in by parts, and other calls come between: the
+page of write leaves that open, with nonblock and without. In fdref such a write goes in at once where there is room.
+
+Where the parts end is told by what was read: where a read ends, or goes on with the bytes of another write. Each part
+is then a write of its own, made in the time of the whole.
+"""
+
+import os
+from collections.abc import Iterator, Sequence
+
+from support import plain_model
+from support.histories import Noted
+from support.plain_model import PIPE_BUF, Act, Limits
+from support.runs import ALL_RECORDS
+from support.searching import Step
+
+# A write that went in by more parts is not looked for.
+PARTS_MOST = 64
+
+
+class Taken:
+    """A write whose bytes are read: how many of them were, and where its parts end."""
+
+    def __init__(self, noted: Noted) -> None:
+        self.noted = noted
+        self.data: bytes = noted.act.fields[1]
+        self.count = 0
+        self.ends: set[int] = set()
+
+    def same(self, data: bytes) -> int:
+        """How many bytes are those that come next of it."""
+        return len(os.path.commonprefix([self.data[self.count : self.count + len(data)], data]))
+
+    def take(self, count: int) -> None:
+        """Takes so many of its bytes."""
+        self.count += count
+        self.ends.add(self.count)
+
+    def parts(self) -> list[Noted]:
+        """The write, or its parts."""
+        if len(self.data) <= PIPE_BUF or self.noted.outcome != str(len(self.data)) or len(self.ends) > PARTS_MOST:
+            return [self.noted]
+        ends = sorted({*self.ends, len(self.data)})
+        pieces = [self.data[begin:end] for begin, end in zip([0, *ends], ends, strict=False)]
+        return [self.noted._replace(act=with_data(self.noted.act, it), outcome=str(len(it))) for it in pieces]
+
+
+def with_data(act: Act, data: bytes) -> Act:
+    """A write of other bytes."""
+    return act._replace(fields=(act.fields[0], data))
+
+
+def reads_of(history: Sequence[Noted]) -> Iterator[tuple[Noted, bytes]]:
+    """The reads that gave bytes, with these, in the order in which they came back."""
+    back = (noted for noted in history if noted.act.word == "read" and noted.end is not None)
+    for noted in sorted(back, key=lambda it: it.end or 0):
+        data = plain_model.read_data(noted.outcome.encode())
+        if data:
+            yield noted, data
+
+
+def in_parts(history: Sequence[Noted]) -> list[Noted] | None:
+    """A history with the parts of its writes, or None where none has parts."""
+    taken = {at: Taken(noted) for at, noted in enumerate(history) if noted.act.word == "write"}
+    for noted, data in reads_of(history):
+        while data:
+            begun = [it for it in taken.values() if not noted.precedes(it.noted)]
+            best = max(begun, key=lambda it: it.same(data), default=None)
+            count = best.same(data) if best else 0
+            if not best or not count:
+                break
+            best.take(count)
+            data = data[count:]
+    parted = [it for at, noted in enumerate(history) for it in (taken[at].parts() if at in taken else [noted])]
+    return parted if len(parted) > len(history) else None
+
+
+def are_of_pipes(history: Sequence[Noted], steps: Sequence[Step], limits: Limits) -> bool:
+    """Whether each step of an order that is no act of a history, but a part of one, is a write to a pipe."""
+    whole = {noted.act for noted in history}
+    run = plain_model.Run(ALL_RECORDS, limits)
+    for act, _ in steps:
+        process = run.world.processes.get(act.actor) if isinstance(act.actor, int) else None
+        at = process.table.get(act.fields[0]) if process and act.word == "write" else None
+        if at and not at.pipe and act not in whole:
+            return False
+        run.take(act)
+    return True
