@@ -57,6 +57,7 @@ from compare_reasons import OWN, REASONS, Difference, Reason, appended_to, follo
 from compare_reasons import reason_of, told_reason
 from compare_runs import Known, act_of, check_alike, ends_of_closing, is_told_back, places_of_script, together
 from compare_walks import CLASSES, class_of, random_lines, with_looks
+from waits import Long
 
 LINES_BEFORE = 12
 ACTS_TOLD = 8
@@ -463,7 +464,8 @@ def main(words: Sequence[str]) -> int:
     with tempfile.TemporaryDirectory(prefix="compare-") as folder:
         try:
             args.command = program_of(args.program)
-            check_all(args, totals, args.ask or shlex.quote(compiled("ask_kernel", "c99", folder)))
+            with Long(f"asks the system and fdref {several(len(args.scripts) + args.random, 'script')}", "compare.py"):
+                check_all(args, totals, args.ask or shlex.quote(compiled("ask_kernel", "c99", folder)))
         except CannotRun as fault:
             print(f"compare.py: {fault}", file=sys.stderr)
             return 3

@@ -70,6 +70,7 @@ from support.texts import several
 import apart
 from compare_limits import reason_or_limit
 from compare_reasons import OWN, told_reason
+from waits import Long
 
 # The reason of a history that only larger pipes explain.
 BY_ROOM = "reason: room of a pipe (own; page of write)"
@@ -271,10 +272,13 @@ def main(words: Sequence[str]) -> int:
         return WRONG_WORDS
     try:
         program = program_of(args.program)
-        histories = read_histories(text)
+        with Long(f"reads {len(text):,} bytes of histories", "order.py"):
+            histories = read_histories(text)
         orders = Orders(program, args, len(histories) == 1)
         for number, history in enumerate(histories, 1):
-            orders.answer(number, history)
+            which = f"history {number} of {len(histories)}, {several(len(history), 'call')}"
+            with Long(f"looks for an order of {which}, and has fdref run it", "order.py"):
+                orders.answer(number, history)
     except BadHistory as fault:
         print(f"order.py: {fault}", file=sys.stderr)
         return NO_CALL

@@ -23,6 +23,8 @@ from support.plain_model import Process, WaitingOpen, WaitingRead, World
 from support.runs import line_of
 from support.texts import several
 
+from waits import Long
+
 GOES_ON, ALL_WAIT, WRONG_WORDS, CANNOT_READ = 0, 1, 2, 3
 
 # How much of a call is shown.
@@ -117,7 +119,9 @@ def main(words: Sequence[str]) -> int:
     """Tells of a trace: the exit status."""
     args = parse(words)
     try:
-        standing = Standing(Path(args.trace).read_bytes())
+        trace = Path(args.trace).read_bytes()
+        with Long(f"goes through a trace of {len(trace):,} bytes, record by record", "waiting.py"):
+            standing = Standing(trace)
     except (BadTrace, OSError) as fault:
         print(f"waiting: {args.trace}: {fault}", file=sys.stderr)
         return CANNOT_READ

@@ -1,4 +1,4 @@
-"""Telling what judge.py waits for, where that takes long: on standard error, with how long it may take at most."""
+"""Telling what a tool waits for or does, where that takes long: on standard error, and how long it may take at most."""
 
 import os
 import sys
@@ -18,9 +18,13 @@ PROCESSES_MOST = 4
 STATES = {"R": "computes", "T": "is stopped by a signal", "t": "is traced", "D": "waits for a device", "Z": "has ended"}
 
 
-def tell(told: str) -> None:
+# How long a tool that says nothing of itself may compute until that is told.
+COMPUTES_SECONDS = 5.0
+
+
+def tell(told: str, who: str = "judge.py") -> None:
     """Tells at once."""
-    print(f"judge.py: {told}", file=sys.stderr, flush=True)
+    print(f"{who}: {told}", file=sys.stderr, flush=True)
 
 
 def waits_for(what: str, most: float) -> str:
@@ -28,11 +32,11 @@ def waits_for(what: str, most: float) -> str:
     return f"waits for {what}" + (f", for {most:g} seconds at most" if most else "")
 
 
-class Waiting:
-    """Something that is waited for, which is told once where it takes long."""
+class Long:
+    """Something that a tool does, which is told once where it takes long."""
 
-    def __init__(self, what: str, most: float = 0) -> None:
-        self.timer = threading.Timer(TELL_SECONDS, tell, [waits_for(what, most)])
+    def __init__(self, told: str, who: str, seconds: float = COMPUTES_SECONDS) -> None:
+        self.timer = threading.Timer(seconds, tell, [told, who])
         self.timer.daemon = True
 
     def __enter__(self) -> Self:
@@ -43,6 +47,13 @@ class Waiting:
         self, kind: type[BaseException] | None, raised: BaseException | None, trace: TracebackType | None
     ) -> None:
         self.timer.cancel()
+
+
+class Waiting(Long):
+    """Something that judge.py waits for, which is told once where it takes long."""
+
+    def __init__(self, what: str, most: float = 0) -> None:
+        super().__init__(waits_for(what, most), "judge.py", TELL_SECONDS)
 
 
 class Late:

@@ -1,7 +1,10 @@
 """What tools/waiting.py tells of a trace: who is there, who waits, in what and for whom."""
 
+import contextlib
+import io
 import sys
 import tempfile
+import time
 from collections.abc import Iterator
 from functools import partial
 
@@ -12,6 +15,8 @@ from support.frames import trace_of
 from support.places import TOOLS
 from support.running import Ran, run
 from support.sources import numbered, source
+
+import waits
 
 TOOL = TOOLS / "waiting.py"
 
@@ -101,6 +106,17 @@ def by_hand(records: list[str], text: str, status: int) -> None:
     same(Ran(status, f"{text}\n".encode(), b""), told(trace_of(records)))
 
 
+def long_is_told() -> None:
+    """What takes long is told, by the tool that does it, and once; what does not is not."""
+    said = io.StringIO()
+    with contextlib.redirect_stderr(said):
+        with waits.Long("goes through a trace", "waiting.py", 0.01):
+            time.sleep(0.2)
+        with waits.Long("reads", "order.py"):
+            pass
+    same("waiting.py: goes through a trace\n", said.getvalue())
+
+
 def cut_trace() -> None:
     """A record that is not whole yet is not looked at, as in a trace that is being written."""
     text = "p0 waits in no call\n1 process, 1 with a connection (1 so far), 0 of which wait\n"
@@ -147,6 +163,7 @@ def cases(seed: str, count: int) -> Iterator[Case]:
     """Traces by hand, and so many random ones."""
     for name, records, text, status in BY_HAND:
         yield name, partial(by_hand, records, text, status)
+    yield "what takes long", long_is_told
     yield "a cut trace", cut_trace
     yield "no trace", no_trace
     for number in range(count):
