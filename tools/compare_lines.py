@@ -93,7 +93,8 @@ class Asked:
         except (Failure, OSError) as fault:
             raise CannotRun(f"{who}: {fault}") from None
         if done.status != 0:
-            raise CannotRun(f"{who} ends with {done.how()}: {done.stderr.decode('ascii', 'replace').strip()}")
+            said = done.stderr.decode("ascii", "replace").strip()
+            raise CannotRun(f"{who} ends with {done.how()}" + (f": {said}" if said else ""))
         return done.stdout
 
     def fifo(self, calls: list[bytes]) -> list[str]:

@@ -229,7 +229,10 @@ class Outcomes:
         if waits.is_unseen:
             is_large = bytes_of_write(line) > plain_model.PIPE_BUF
             return "" if is_large else "parked 0, since it has no more than 512 bytes"
-        return "" if re.fullmatch(f"parked {NUMBER}", line.outcome) else "parked N, with N bytes moved"
+        if re.fullmatch(f"parked {NUMBER}", line.outcome):
+            return ""
+        is_large = bytes_of_write(line) > plain_model.PIPE_BUF
+        return "parked N, with N bytes moved" + (f", or parked {UNSEEN}" if is_large else "")
 
     def expected_back(self, line: Line, who: str, waits: Waiting | None) -> str:
         """What could be said of a call that waited, and has come back or moved on."""
@@ -240,7 +243,9 @@ class Outcomes:
             self.waiting[who] = waits
             self.unseen += waits.is_unseen
             return ""
-        return "" if is_given(waits.word, line.outcome) else f"{given_by(waits.word)}, or an error, as error EPIPE"
+        parts = ", part N with N bytes moved so far" if waits.word == "write" else ""
+        parts += f", {UNSEEN}" if waits.is_unseen else ""
+        return "" if is_given(waits.word, line.outcome) else f"{given_by(waits.word)}{parts}, or an error, as error EPIPE"
 
 
 def is_given(word: str, outcome: str) -> bool:

@@ -290,7 +290,7 @@ def last_said(done: Ran) -> str:
     """How a driver ended, and the end of what it said of that."""
     lines = [line.strip() for line in done.stderr.decode("utf-8", "replace").splitlines() if line.strip()]
     text = "; ".join(lines)
-    return f"{done.how()}: {text if len(text) <= SAID_MOST else '..' + text[-SAID_MOST:]}"
+    return done.how() + (f": {text if len(text) <= SAID_MOST else '..' + text[-SAID_MOST:]}" if text else "")
 
 
 # ---- one script

@@ -85,10 +85,11 @@ def doing(number: int) -> str:
 
 
 def all_doing(but: int = 0) -> str:
-    """What all processes do that this one has started, but for those of one, if it is given. Some are told."""
+    """What all processes do that this one has started, but for those of one, if it is given. Some are told, or that none
+    is seen."""
     by_parent = parents()
     others = {but} | children_of({but}, by_parent) if but else set()
     numbers = children_of({os.getpid()}, by_parent) - others
     told = [text for number in sorted(numbers) if (text := doing(number))]
     more = [f"{len(told) - PROCESSES_MOST} more"] if len(told) > PROCESSES_MOST else []
-    return ", ".join([*told[:PROCESSES_MOST], *more])
+    return ", ".join([*told[:PROCESSES_MOST], *more]) or "none of its processes is seen"

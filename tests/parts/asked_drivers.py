@@ -326,7 +326,9 @@ NO_RUNS = {
     "sees-no-small-write": (PIPED, "line 6 gives `parked ?` for `p0 write 1 x61`; expected parked 0, since it has no"),
     "sees-no-totals": (ACTS, "ask_kernel does not print `records R in I out O` in the end"),
     "sees-no-bytes-in": (ACTS, "does not tell the bytes that went in, and no write of more than 512 bytes waits"),
-    "sees-no-return": (PIPED, "gives `?` for `p0 resume`; expected how many bytes, or an error"),
+    "sees-no-return": (PIPED, "gives `?` for `p0 resume`; expected how many bytes, part N with N bytes moved so far, or an"),
+    "says-no-part": (f"{THREE}p2 read 0 100\n", "expected how many bytes, part N with N bytes moved so far, ?, or"),
+    "says-no-number": (LARGE_SLEEPS["read-wakes-nobody"], "expected parked N, with N bytes moved, or parked ?"),
     "asks-no-pipe": (PIPED, "line 2 gives `not asked` for `p0 pipe`; expected two descriptors"),
     "says-waiting": (PIPED, "gives `parked 0` for `p0 close 0`; expected ok, an error"),
     "says-a-number": (ACTS, "gives `0` for `p0 close 0`; expected ok, an error, as error EBADF"),
@@ -365,6 +367,13 @@ def is_not_compared(program: str, folder: str, way: str, script: str, told: str)
     require(b"Traceback" not in done.stderr, done.said())
 
 
+def silence_is_told(program: str) -> None:
+    """A driver that fails without a word is told so, in a line that does not end at a colon."""
+    words = [sys.executable, str(TOOLS / "compare.py"), "--program", program, "--ask", "false", "--random", "1"]
+    done = run(words, seconds=SECONDS)
+    same((3, b"compare.py: ask_kernel ends with status 1\n"), (done.status, done.stderr))
+
+
 def is_run(program: str, folder: str, script: str) -> None:
     """What the driver prints that is not wrong is compared."""
     same(0, compared(program, folder, "none", script).status)
@@ -399,6 +408,7 @@ def cases(program: str, folder: str) -> Iterator[Case]:
             yield f"{way} {script!r}", partial(is_by_pipe_buf, program, folder, way, script, act)
     for way, (script, text) in NO_RUNS.items():
         yield way, partial(is_no_run, way, script, text)
+    yield "a driver that says nothing", partial(silence_is_told, program)
     yield "no wrong way", partial(is_run, program, folder, CLOSED)
     for way, script, text in NOT_COMPARED:
         yield f"{way}, as it is told", partial(is_not_compared, program, folder, way, script, text)

@@ -7,6 +7,7 @@ import tempfile
 import time
 from collections.abc import Iterator
 from functools import partial
+from unittest import mock
 
 from parts.written_traces import random_records
 from support.auditing import Judge, act_of
@@ -117,6 +118,12 @@ def long_is_told() -> None:
     same("waiting.py: goes through a trace\n", said.getvalue())
 
 
+def nothing_is_told() -> None:
+    """Where nothing is seen of the processes that are waited for, that is told."""
+    with mock.patch.object(waits, "doing", return_value=""):
+        same("none of its processes is seen", waits.all_doing())
+
+
 def cut_trace() -> None:
     """A record that is not whole yet is not looked at, as in a trace that is being written."""
     text = "p0 waits in no call\n1 process, 1 with a connection (1 so far), 0 of which wait\n"
@@ -164,6 +171,7 @@ def cases(seed: str, count: int) -> Iterator[Case]:
     for name, records, text, status in BY_HAND:
         yield name, partial(by_hand, records, text, status)
     yield "what takes long", long_is_told
+    yield "what is not seen", nothing_is_told
     yield "a cut trace", cut_trace
     yield "no trace", no_trace
     for number in range(count):

@@ -62,6 +62,8 @@ PRINTED: dict[str, Callable[[str], str]] = {
     "sees-no-totals": lambda text: re.sub(r"(?m)^records .*$", "records ? in ? out ?", text),
     "sees-no-bytes-in": lambda text: re.sub(r"(?m)^(records \d+ in) .* out", r"\1 ? out", text),
     "sees-no-return": lambda text: text.replace("p0 resume = 1", "p0 resume = ?"),
+    "says-no-part": lambda text: re.sub(r"(?m)( p0 resume = )\?$", r"\1half", text),
+    "says-no-number": lambda text: text.replace("parked ?", "parked some"),
     "asks-no-pipe": lambda text: text.replace(" pipe = 0 1", " pipe = not asked"),
     "says-waiting": lambda text: text.replace(" close 0 = ok", " close 0 = parked 0"),
     "says-a-number": lambda text: text.replace(" close 0 = ok", " close 0 = 0"),
