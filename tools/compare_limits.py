@@ -164,8 +164,8 @@ def is_long_name(it: Difference) -> bool:
     return is_past and is_one_limit(it, names_told)
 
 
-# Reasons by limits of a system, which the standard leaves open. Scripts that are compared have the first alone: what runs
-# them sets the limits of the profile, where the system has as many descriptors.
+# Reasons by limits of a system, which the standard leaves open. Scripts that are compared have the first alone: what
+# runs them sets the limits of the profile, where the system has as many descriptors.
 LIMITS = [
     Reason("fewer than 32 descriptors", OWN, "XBD limits.h, _POSIX_OPEN_MAX", is_fewer_descriptors),
     Reason("more than 32 descriptors", OWN, "XBD limits.h, OPEN_MAX", is_more_descriptors),

@@ -245,7 +245,8 @@ class Outcomes:
             return ""
         parts = ", part N with N bytes moved so far" if waits.word == "write" else ""
         parts += f", {UNSEEN}" if waits.is_unseen else ""
-        return "" if is_given(waits.word, line.outcome) else f"{given_by(waits.word)}{parts}, or an error, as error EPIPE"
+        expected = f"{given_by(waits.word)}{parts}, or an error, as error EPIPE"
+        return "" if is_given(waits.word, line.outcome) else expected
 
 
 def is_given(word: str, outcome: str) -> bool:

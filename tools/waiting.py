@@ -9,12 +9,14 @@ has the other end of the pipe or FIFO; or that the call can go on, so that its r
 or that it was forked and has no connection. The last line counts them. What a server has answered stands in TRACE about
 a millisecond later. Whether a client reads its answers it does not tell: one that does not waits in no call.
 
-Exit status: 0 where a process that has a connection can go on, or there is none; 1 where all of them wait, and the call
-of none can go on; 2 for wrong words; 3 where TRACE cannot be read, or is malformed or illegal.
+Exit status: 0 where a process that has a connection waits in no call, or there is none; 1 where all of them wait, and
+the call of none can go on, or where one can go on and did not for a third of a second, so that its wake is lost; 2 for
+wrong words; 3 where TRACE cannot be read, or is malformed or illegal.
 """
 
 import argparse
 import sys
+import time
 from collections.abc import Iterator, Sequence
 from pathlib import Path
 
@@ -25,7 +27,9 @@ from support.texts import several
 
 from waits import Long
 
-GOES_ON, ALL_WAIT, WRONG_WORDS, CANNOT_READ = 0, 1, 2, 3
+GOES_ON, STANDS_STILL, WRONG_WORDS, CANNOT_READ = 0, 1, 2, 3
+# A call that can go on has its resume sooner than after so many seconds.
+RESUME_SECONDS = 0.3
 
 # How much of a call is shown.
 CALL_SHOWN = 60
@@ -46,6 +50,8 @@ class Standing:
         # the last call of each process, with its place
         self.calls: dict[int, tuple[int, str]] = {}
         self.connections = 0
+        # the calls that can go on, and did not for a while: those of these processes
+        self.lost: set[int] = set()
         for place, text in enumerate(audit.frames.lines):
             line = line_of(text)
             who, word = line.act.split(" ")[:2]
@@ -57,6 +63,11 @@ class Standing:
     def is_stuck(self, process: Process) -> bool:
         """Whether a process waits in a call that cannot go on."""
         return process.waits is not None and not process.waits.is_ready(self.world)
+
+    def due(self) -> set[tuple[int, int]]:
+        """The processes whose calls can go on, with the places of these."""
+        waiting = [it for it in self.world.processes.values() if it.attached and it.waits and not self.is_stuck(it)]
+        return {(it.number, self.calls[it.number][0]) for it in waiting}
 
     def holders(self, process: Process) -> Iterator[str]:
         """Those who have the other end of the pipe that a process waits at."""
@@ -84,7 +95,8 @@ class Standing:
         place, call = self.calls[process.number]
         shown = call if len(call) <= CALL_SHOWN else f"{call[:CALL_SHOWN]}.."
         moved = f", with {several(process.waits.moved, 'byte')} moved" if process.waits.moved else ""
-        reason = self.reason(process) if self.is_stuck(process) else "and can go on"
+        late = ": its wake is lost" if process.number in self.lost else ""
+        reason = self.reason(process) if self.is_stuck(process) else f"and can go on{late}"
         return f"{who} waits in {shown} since record {place}{moved}, {reason}"
 
     def lines(self) -> list[str]:
@@ -98,12 +110,28 @@ class Standing:
             last += ": a server that goes on waits for connections"
         if self.all_wait():
             last += ": none goes on by itself"
+        if self.lost:
+            last += f": {several(len(self.lost), 'call')} can go on, and no resume came"
         return [*map(self.told, processes), last]
 
     def all_wait(self) -> bool:
         """Whether all that have a connection wait, and the call of none can go on."""
         attached = [process for process in self.world.processes.values() if process.attached]
         return bool(attached) and all(map(self.is_stuck, attached))
+
+
+def standing_in(path: Path) -> Standing:
+    """Where the processes of a trace stand. Where a call can go on it is looked once more, a little later."""
+    trace = path.read_bytes()
+    with Long(f"goes through a trace of {len(trace):,} bytes, record by record", "waiting.py"):
+        first = Standing(trace)
+        if not first.due():
+            return first
+        time.sleep(RESUME_SECONDS)
+        later = path.read_bytes()
+        standing = first if later == trace else Standing(later)
+    standing.lost = {number for number, _ in first.due() & standing.due()}
+    return standing
 
 
 def parse(words: Sequence[str]) -> argparse.Namespace:
@@ -119,14 +147,12 @@ def main(words: Sequence[str]) -> int:
     """Tells of a trace: the exit status."""
     args = parse(words)
     try:
-        trace = Path(args.trace).read_bytes()
-        with Long(f"goes through a trace of {len(trace):,} bytes, record by record", "waiting.py"):
-            standing = Standing(trace)
+        standing = standing_in(Path(args.trace))
     except (BadTrace, OSError) as fault:
         print(f"waiting: {args.trace}: {fault}", file=sys.stderr)
         return CANNOT_READ
     print("\n".join(standing.lines()))
-    return ALL_WAIT if standing.all_wait() else GOES_ON
+    return STANDS_STILL if standing.all_wait() or standing.lost else GOES_ON
 
 
 if __name__ == "__main__":

@@ -326,7 +326,7 @@ NO_RUNS = {
     "sees-no-small-write": (PIPED, "line 6 gives `parked ?` for `p0 write 1 x61`; expected parked 0, since it has no"),
     "sees-no-totals": (ACTS, "ask_kernel does not print `records R in I out O` in the end"),
     "sees-no-bytes-in": (ACTS, "does not tell the bytes that went in, and no write of more than 512 bytes waits"),
-    "sees-no-return": (PIPED, "gives `?` for `p0 resume`; expected how many bytes, part N with N bytes moved so far, or an"),
+    "sees-no-return": (PIPED, "gives `?` for `p0 resume`; expected how many bytes, part N with N bytes moved so far"),
     "says-no-part": (f"{THREE}p2 read 0 100\n", "expected how many bytes, part N with N bytes moved so far, ?, or"),
     "says-no-number": (LARGE_SLEEPS["read-wakes-nobody"], "expected parked N, with N bytes moved, or parked ?"),
     "asks-no-pipe": (PIPED, "line 2 gives `not asked` for `p0 pipe`; expected two descriptors"),

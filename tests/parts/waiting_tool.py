@@ -7,6 +7,7 @@ import tempfile
 import time
 from collections.abc import Iterator
 from functools import partial
+from pathlib import Path
 from unittest import mock
 
 from parts.written_traces import random_records
@@ -17,6 +18,7 @@ from support.places import TOOLS
 from support.running import Ran, run
 from support.sources import numbered, source
 
+import waiting
 import waits
 
 TOOL = TOOLS / "waiting.py"
@@ -26,6 +28,7 @@ BOTH = [*PAIR, "3 p1 attach = ok"]
 LONG = "6162" * 515
 NOBODY = ": a server that goes on waits for connections"
 STUCK = ": none goes on by itself"
+LOST = ": 1 call can go on, and no resume came"
 # Records, what is told of them, and the exit status.
 BY_HAND: list[tuple[str, list[str], str, int]] = [
     ("nobody", [], f"0 processes, 0 with a connection (0 so far), 0 of which wait{NOBODY}", 0),
@@ -48,9 +51,9 @@ BY_HAND: list[tuple[str, list[str], str, int]] = [
         "all wait, and one can go on",
         [*BOTH, "4 p0 pipe = 2 3", "5 p1 read 0 1 = parked 0", "6 p0 write 1 x78 = 1", "7 p0 read 2 1 = parked 0"],
         "p0 waits in read 2 1 since record 7, where the writing end is open in itself\n"
-        "p1 waits in read 0 1 since record 5, and can go on\n"
-        "2 processes, 2 with a connection (2 so far), 2 of which wait",
-        0,
+        "p1 waits in read 0 1 since record 5, and can go on: its wake is lost\n"
+        f"2 processes, 2 with a connection (2 so far), 2 of which wait{LOST}",
+        1,
     ),
     (
         "a part of a write",
@@ -118,6 +121,22 @@ def long_is_told() -> None:
     same("waiting.py: goes through a trace\n", said.getvalue())
 
 
+def later_is_looked_at() -> None:
+    """A call that can go on, and is taken up a little later, has no wake that is lost."""
+    records = [*BOTH, "4 p1 read 0 1 = parked 0", "5 p0 write 1 x78 = 1"]
+    whole = trace_of([*records, "6 p1 resume = x78"])
+    with tempfile.NamedTemporaryFile(prefix="fdref-") as file:
+        file.write(trace_of(records))
+        file.flush()
+
+        def write_on(_: float) -> None:
+            Path(file.name).write_bytes(whole)
+
+        with mock.patch.object(waiting.time, "sleep", write_on):
+            standing = waiting.standing_in(Path(file.name))
+    same((set(), "p1 waits in no call"), (standing.lost, standing.lines()[1]))
+
+
 def nothing_is_told() -> None:
     """Where nothing is seen of the processes that are waited for, that is told."""
     with mock.patch.object(waits, "doing", return_value=""):
@@ -157,12 +176,14 @@ def random_case(seed: str, number: int) -> None:
     lines = ran.stdout.decode().splitlines()
     same(wanted, [seen(line) for line in lines[:-1]])
     attached = [line for line in wanted if not line.endswith("alone")]
-    same(int(bool(attached) and all(line.endswith("stuck") for line in attached)), ran.status)
+    is_lost = any(line.endswith("ready") for line in attached)
+    same(int(is_lost or (bool(attached) and all(line.endswith("stuck") for line in attached))), ran.status)
 
 
 def seen(line: str) -> str:
     """What a line tells of a process."""
-    ends = {"was forked and has no connection": "alone", "waits in no call": "goes on", "and can go on": "ready"}
+    ends = {"was forked and has no connection": "alone", "waits in no call": "goes on"}
+    ends["and can go on: its wake is lost"] = "ready"
     return f"{line.split(' ')[0]} {next((what for end, what in ends.items() if line.endswith(end)), 'stuck')}"
 
 
@@ -172,6 +193,7 @@ def cases(seed: str, count: int) -> Iterator[Case]:
         yield name, partial(by_hand, records, text, status)
     yield "what takes long", long_is_told
     yield "what is not seen", nothing_is_told
+    yield "a call that is taken up later", later_is_looked_at
     yield "a cut trace", cut_trace
     yield "no trace", no_trace
     for number in range(count):
