@@ -56,7 +56,7 @@ from compare_lines import Asked, first_unfit, in_other_order, is_at_once, moved
 from compare_reasons import OWN, REASONS, Difference, Reason, appended_to, follows_append, process_of
 from compare_reasons import reason_of, told_reason
 from compare_runs import Known, act_of, check_alike, ends_of_closing, is_told_back, places_of_script, together
-from compare_walks import CLASSES, class_of, random_lines, with_looks
+from compare_walks import CLASSES, class_of, random_lines, with_marks
 from waits import Long
 
 LINES_BEFORE = 12
@@ -204,10 +204,15 @@ def checked(asked: Asked, lines: list[bytes]) -> Checked:
     """Compares a script, and again without the acts after which system and fdref are apart."""
     result = Checked()
     apart: list[Placed] = []
-    numbered = list(enumerate(with_looks(lines, asked.limits)))
+    marked = with_marks(lines, asked.limits)
+    numbered = list(enumerate(line for line, _ in marked))
     for _ in range(STRIKES_MOST):
         system, found = compared(asked, [line for _, line in numbered])
         result.last = None
+        of_script = places_of_script(system)
+        looks = {place for place, (at, _) in zip(of_script, numbered, strict=True) if marked[at][1]}
+        for it in found:
+            it.is_look = it.place in looks
         result.calls = sum(line.place not in ("-", "") and not is_told_back(line) for line in system)
         here = [placed(numbered, system, it) for it in found]
         result.differences = [it for _, it in sorted(apart + here, key=lambda it: it[0])]
@@ -268,6 +273,7 @@ def told(difference: Difference) -> str:
     parts += [f"system: {line.place} {line.act} = {difference.system}"]
     parts += [f"fdref:  {line.place} {line.act} = {difference.fdref}"]
     parts += [told_reason(difference.reason), *told_waiting(difference)]
+    parts += ["the script does not ask for this: compare.py looks at what it has left"] if difference.is_look else []
     return "\n".join(map(clipped, parts))
 
 

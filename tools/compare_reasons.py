@@ -41,6 +41,8 @@ class Difference:
         # the acts that fdref is given instead of those of some lines, and whether it is so because of this difference
         self.for_fdref: dict[int, list[str]] = {}
         self.is_followed = False
+        # whether its act is none of the script, but one that looks at what the script has left
+        self.is_look = False
         # what is known of the pipes of the system: that they hold as many bytes as fdref's, and that they have no pages
         self.has_same_room = self.counts_bytes = False
         # how many bytes it was seen to hold, in whatever pieces they came

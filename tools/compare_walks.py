@@ -16,15 +16,21 @@ from compare_runs import is_told_back
 
 
 def with_looks(lines: list[bytes], limits: Limits = DEFAULTS) -> list[bytes]:
+    """A script with the acts that look."""
+    return [line for line, _ in with_marks(lines, limits)]
+
+
+def with_marks(lines: list[bytes], limits: Limits = DEFAULTS) -> list[tuple[bytes, bool]]:
     """A script with acts that look at what a call has left that systems make otherwise, at calls that wait on from
-    before a setfl, at each call that can go on because of an act and, at the end, at all that is there."""
+    before a setfl, at each call that can go on because of an act and, at the end, at all that is there. With each act
+    stands whether it is such a look."""
     beside, appending = Settled(limits), Settled(limits)
     appending.world = Appending(limits)
-    looked: list[bytes] = []
+    looked: list[tuple[bytes, bool]] = []
     for line in lines:
         act = plain_model.read_act(line)
         looks = [text.encode() for text in looks_at_left(act, beside.world, appending.world)]
-        looked += [line, *looks]
+        looked += [(line, False), *((look, True) for look in looks)]
         seen = len(beside.lines)
         for run in (beside, appending):
             for it in parts(act, run.world):
@@ -32,9 +38,9 @@ def with_looks(lines: list[bytes], limits: Limits = DEFAULTS) -> list[bytes]:
         looked_at = come_back(beside, seen)
         if act.word == "setfl":
             looked_at |= {number for number, it in beside.world.processes.items() if it.waits}
-        looked += [b"p%d resume" % number for number in sorted(looked_at)]
+        looked += [(b"p%d resume" % number, True) for number in sorted(looked_at)]
     named = {name for line in lines for name in names_of(plain_model.read_act(line))}
-    return looked + [text.encode() for text in last_looks(beside.world, named)]
+    return looked + [(text.encode(), True) for text in last_looks(beside.world, named)]
 
 
 def looks_at_left(act: plain_model.Act, *worlds: plain_model.World) -> Iterator[str]:

@@ -197,6 +197,7 @@ FEW = f"{MANY_OPEN}p0 open a r\np0 dup 0\np0 pipe\np0 dup2 0 25\np0 close 25\np0
 BY_OPEN_MAX = "fewer than 32 descriptors (own; XBD limits.h, _POSIX_OPEN_MAX)"
 BY_FILES = "lseek past the greatest file of the file system is EINVAL (the system departs; page of lseek)"
 BY_READER = "a FIFO whose reader waits in its open (own; page of open)"
+LOOKS = "the script does not ask for this: compare.py looks at what it has left"
 BY_APPEND = "pwrite under O_APPEND appends (the system departs; page of write (pwrite))"
 BY_COUNT = "more than 65,536 bytes in a call (own; pages of read and write)"
 # Right systems: what they do otherwise has this reason, and nothing is left out of the comparison.
@@ -244,6 +245,8 @@ def left_is_told(program: str, folder: str, way: str, script: str, line: str, wa
     place = next((place for place, text in enumerate(lines) if text.startswith("system: ")), 0)
     require(done.status == 1 and lines[place].endswith(f" {line}"), done.said())
     require(lines[place + 1].endswith(f" = {wanted}") and lines[place + 2] == "reason: none", f"{lines}")
+    is_asked = line.partition(" = ")[0] in script.splitlines()
+    same(not is_asked, LOOKS in lines)
 
 
 # ---- pipes that take less than they have room for
