@@ -19,27 +19,27 @@
      FDREF_STRICT=1     What fdref leaves out is told on standard error, and the program ends with status 125.
      FDREF_PAST=FILE    Each call that is left to the system or fails with ENOSYS, as far as it is seen, is appended to
                         FILE as a line: with the place of the last record of its process, the process, its kind, and
-                        after a tab its name: `! 6 p0 path open<tab>d/x`, `! 6 p0 program system<tab>./a`,
-                        `! 6 p0 thread read`. In `! 6 p0 call poll<tab>3` it is a descriptor of fdref. Where
-                        FDREF_STRICT would not tell it `-` stands for `!`: `- 6 p0 stream fopen<tab>/tmp/x`, and
-                        `- 6 p0 stdio 1`, as a file of fdref comes to be at descriptor 0, 1 or 2. `- 6 p0 signal 11` is
-                        a child that a signal ended, as wait, waitid or waitpid told, after a tab its number where that
-                        is known; `- 6 p0 vfork fork` a vfork, and `- 6 p0 interrupt read` a signal in a call that
-                        waits, whose handler restarts none. So are `- 6 p0 timer alarm` and `! 6 p0 limit RLIMIT_FSIZE`,
-                        as a program starts a timer or sets that limit or RLIMIT_NOFILE;
-                        `- 6 p0 look stat<tab>a = regular 5 1` is what a stat of a
-                        name has told; `- 6 p0 rights setuid` is a call by which it may lose those of the superuser, or a umask that
-                        takes rights of the owner of a file; and
-                        `- 6 p0 handler 14<tab>ends`, as it sets a handler of signal 14 that ends calls, or `restarts`
-                        them, or takes it away (`none`), or as the signal is `ignored`. `- 6 p0 makes socket` is a call that makes a descriptor of the
-                        system, from 32 on, where a native run has the lowest that is free. In a native run seven kinds
-                        are there: after `- 0 p0 cut exit` a process ended while others of its threads may have been in
-                        a call; by `! 0 p0 made 3` a descriptor is higher since 3 is open, which no call made that fdref
-                        knows; and `signal`, `look`, `handler` and `! 57 p0 cloexec F_GETFD<tab>3 = 0`, with the length of the
-                        log in the place of the place: F_GETFD, or F_SETFD, has answered otherwise than by FD_CLOEXEC as
-                        this library keeps it, in a process of one thread. There a child has the handlers of its parent
-                        once more, and after an exec 0 stands for all signals. After `ends heard` or `restarts heard`
-                        this library calls the handler, and notes `- 57 p0 ran 14` before.
+                        after a tab its name: `! 6 p0 path open<tab>d/x`, `! 6 p0 program system<tab>./a`, `! 6 p0
+                        thread read`. In `! 6 p0 call poll<tab>3` it is a descriptor of fdref. Where FDREF_STRICT would
+                        not tell it `-` stands for `!`: `- 6 p0 stream fopen<tab>/tmp/x`, and `- 6 p0 stdio 1`, as a
+                        file of fdref comes to be at descriptor 0, 1 or 2. `- 6 p0 signal 11` is a child that a signal
+                        ended, as wait, waitid or waitpid told, after a tab its number where that is known; `- 6 p0
+                        vfork fork` a vfork, and `- 6 p0 interrupt read` a signal in a call that waits, whose handler
+                        restarts none. So are `- 6 p0 timer alarm` and `! 6 p0 limit RLIMIT_FSIZE`, as a program starts
+                        a timer or sets that limit or RLIMIT_NOFILE; `- 6 p0 look stat<tab>a = regular 5 1` is what a
+                        stat of a name has told; `- 6 p0 rights setuid` is a call by which it may lose those of the
+                        superuser, or a umask that takes rights of the owner of a file; and `- 6 p0 handler
+                        14<tab>ends`, as it sets a handler of signal 14 that ends calls, or `restarts` them, or takes it
+                        away (`none`), or as the signal is `ignored`. `- 6 p0 makes socket` is a call that makes a
+                        descriptor of the system, from 32 on, where a native run has the lowest that is free. In a
+                        native run seven kinds are there: after `- 0 p0 cut exit` a process ended while others of its
+                        threads may have been in a call; by `! 0 p0 made 3` a descriptor is higher since 3 is open,
+                        which no call made that fdref knows; and `signal`, `look`, `handler` and `! 57 p0 cloexec
+                        F_GETFD<tab>3 = 0`, with the length of the log in the place of the place: F_GETFD, or F_SETFD,
+                        has answered otherwise than by FD_CLOEXEC as this library keeps it, in a process of one thread.
+                        There a child has the handlers of its parent once more, and after an exec 0 stands for all
+                        signals. After `ends heard` or `restarts heard` this library calls the handler, and notes `- 57
+                        p0 ran 14` before.
 
    Without the first two nothing is changed, nor before a program has its environment, as in .preinit_array. Where there
    is no answer (no server, no place at it for one more process, a run that is full, a lost connection), and where a
@@ -61,7 +61,8 @@
        or of EAGAIN to a pipe where it does not wait. readv and writev are one transfer.
      - stat of a name is an open for reading and writing, an fstat and a close. A name that is there and cannot be
        opened so is a FIFO; it is told to have 1 link and no bytes. statx and access are the same, and truncate has an
-       ftruncate in between. None of these is logged, also in a native run; but what stat told is noted. They are EMFILE where no descriptor is free.
+       ftruncate in between. None of these is logged, also in a native run; but what stat told is noted. They are EMFILE
+       where no descriptor is free.
      - st_ino is a number that the file has got by its first name, which goes with it to others. It is the same in all
        processes that come of one by fork and exec; a program of system has its own. Modes are 0644, times 0.
      - F_DUPFD is a dup2 to the lowest free descriptor from its argument on.
@@ -1030,8 +1031,8 @@ static int64_t dup_from_asked(int fd, int from, int is_cloexec)
     return dup_ours_to(act, is_cloexec);
 }
 
-/* A native F_DUPFD, or F_DUPFD_CLOEXEC. It is logged with the number that was due, where that is known, and a refusal but
-   for those that fdref is not asked for. */
+/* A native F_DUPFD, or F_DUPFD_CLOEXEC. It is logged with the number that was due, where that is known, and a refusal
+   but for those that fdref is not asked for. */
 static int64_t gone_from(const struct going *it, int from, int64_t given)
 {
     int fd = it->act.fd, due = it->act.other >= 0 ? it->act.other : given >= 0 ? (int)given : number_from(from);
