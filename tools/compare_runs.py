@@ -207,7 +207,8 @@ class Outcomes:
             return f"it at place {self.records}"
         self.records += 1
         who, word, *_ = line.act.split(" ")
-        waits = self.waiting.pop(who, None)
+        # an attach is an act of the one who attaches, and who waits goes on to wait
+        waits = None if word == "attach" else self.waiting.pop(who, None)
         self.unseen -= waits is not None and waits.is_unseen and word == "resume"
         return self.expected_back(line, who, waits) if word == "resume" else self.expected_first(line, who, word)
 

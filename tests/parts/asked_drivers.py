@@ -351,6 +351,24 @@ NOT_COMPARED = [
 ]
 
 
+# An attach of a process that waits is refused, and it waits on.
+ATTACHED_WAITING = """join
+p0 pipe
+p0 fork
+p1 attach
+p1 read 0 9
+p1 attach
+p0 write 1 x61
+p1 resume
+"""
+
+
+def is_taken(script: str) -> None:
+    """What a driver prints is taken for the run of the script."""
+    text = script.encode()
+    compare_runs.run_of(text.splitlines(), wrong_driver.printed("none", text))
+
+
 def is_no_run(way: str, script: str, told: str) -> None:
     """What a driver prints that is not the run of the script is not taken, and it is told why."""
     lines, text = script.encode().splitlines(), script.encode()
@@ -411,6 +429,7 @@ def cases(program: str, folder: str) -> Iterator[Case]:
             yield f"{way} {script!r}", partial(is_by_pipe_buf, program, folder, way, script, act)
     for way, (script, text) in NO_RUNS.items():
         yield way, partial(is_no_run, way, script, text)
+    yield "an attach of a process that waits", partial(is_taken, ATTACHED_WAITING)
     yield "a driver that says nothing", partial(silence_is_told, program)
     yield "no wrong way", partial(is_run, program, folder, CLOSED)
     for way, script, text in NOT_COMPARED:
