@@ -245,8 +245,10 @@ def left_is_told(program: str, folder: str, way: str, script: str, line: str, wa
     place = next((place for place, text in enumerate(lines) if text.startswith("system: ")), 0)
     require(done.status == 1 and lines[place].endswith(f" {line}"), done.said())
     require(lines[place + 1].endswith(f" = {wanted}") and lines[place + 2] == "reason: none", f"{lines}")
-    is_asked = line.partition(" = ")[0] in script.splitlines()
-    same(not is_asked, LOOKS in lines)
+    act = line.partition(" = ")[0]
+    # what came back the driver tells unasked
+    is_look = act not in script.splitlines() and not act.endswith(" resume")
+    same(is_look, LOOKS in lines)
 
 
 # ---- pipes that take less than they have room for
