@@ -19,6 +19,7 @@ from parts import gnulib, judged_logs, judged_programs
 from parts.c_programs import compilers
 from support.counting import Case, Count
 from support.options import ONLY, PROGRAM, asked
+from support.signals import heed
 
 GNULIB = "gnulib"
 
@@ -47,6 +48,7 @@ def parts_with(bench: judged_programs.Bench, only: str) -> Iterator[Part]:
 
 def main(words: Sequence[str]) -> int:
     """Makes all checks: the exit status."""
+    heed()
     args = asked(words, "Judges programs by tools/judge.py.", PROGRAM, ONLY)
     count = Count(also=(gnulib.judge.CannotJudge,))
     parts: list[Part] = [("logs", judged_logs.cases()), ("orders", judged_logs.order_cases(args.program))]

@@ -29,6 +29,7 @@ from parts.preload_programs import endings, left_out, programs
 from parts.preload_system import commands
 from support.counting import Case, Count, require
 from support.options import ONLY, PROGRAM, asked
+from support.signals import heed
 
 TELL_MOST = 10
 
@@ -68,6 +69,7 @@ def with_each(
 
 def main(words: Sequence[str]) -> int:
     """Makes all checks: the exit status."""
+    heed()
     args = asked(words, "Runs programs with the library of clients/preload.", PROGRAM, ONLY)
     with tempfile.TemporaryDirectory(prefix="fdref-") as folder:
         every = libraries(folder)

@@ -556,9 +556,7 @@ def is_kept(bench: Bench) -> None:
 def noted_natively(bench: Bench, word: str) -> tuple[list[list[str]], str]:
     """The lines of the log of a race that runs natively, and what else is noted of it."""
     with tempfile.TemporaryDirectory(prefix="fdref-") as folder:
-        # a signal that whoever runs the tests ignores would be noted too
-        env = ["env", "--default-signal", f"LD_PRELOAD={bench.shim()}"]
-        env += [f"FDREF_LOG={folder}/log", f"FDREF_PAST={folder}/past"]
+        env = ["env", f"LD_PRELOAD={bench.shim()}", f"FDREF_LOG={folder}/log", f"FDREF_PAST={folder}/past"]
         same(0, run([*env, bench.compiled("judge_races"), word], seconds=SECONDS, folder=folder).status)
         log, noted = (Path(folder, name).read_text(encoding="ascii") for name in ("log", "past"))
     return [line.split(" ") for line in log.splitlines()], noted
@@ -698,13 +696,11 @@ def tells_long_runs(bench: Bench) -> None:
 def is_left_by_server(bench: Bench) -> None:
     """A command that runs fdref, and ends, and leaves a process that keeps its outputs open, is not waited for."""
     left = Path(bench.path("left"))
-    leaves = shlex.join(["sh", "-c", f"setsid sh -c 'echo $$ >{left}; exec sleep {2 * SECONDS}' & exit 1"])
+    stays = f"setsid sh -c 'echo $$ >{left}; exec sleep {2 * SECONDS}'"
+    leaves = shlex.join(["sh", "-c", f"{stays} & while [ ! -s {left} ]; do sleep 0.01; done; exit 1"])
     try:
         cannot_run(bench, ("--program", leaves, "--shim", bench.shim(), "true"), "no server: status 1: ", ())
     finally:
-        until = time.monotonic() + SECONDS
-        while not (left.exists() and left.read_text(encoding="ascii")) and time.monotonic() < until:
-            time.sleep(0.01)
         os.kill(int(left.read_text(encoding="ascii")), signal.SIGKILL)
 
 
