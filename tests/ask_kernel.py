@@ -431,6 +431,7 @@ WAITS = TWO + FILLED
 @case("a read of less, while a write waits for a page", WAITS + b"p1 read 0 100\np1 read 0 65536\n", "read")
 @case("and after that", WAITS + b"p1 read 0 100\np0 exit\np1 read 0 65536\n", "read")
 @case("a write that moves less", TWO + b"p0 close 0\n" + FILLED + b"p1 read 0 5000\np1 close 0\n", "resume")
+@case("a small write that waits for a page", TWO + b"p0 write 1 61*65535\np0 write 1 62*2\np1 read 0 1\n", "resume")
 @case("a write that waits for a page", WAITS.replace(b"20000", b"600") + b"p1 read 0 1000\n", "resume")
 def page_is_told(bench: Bench, calls: bytes, word: str) -> None:
     """What a pipe of Linux that has pages does otherwise once a write waits is told with that reason."""

@@ -325,10 +325,13 @@ def is_paged_room(it: Difference) -> bool:
 
 def is_paged_resume(it: Difference, call: plain_model.WaitingWrite) -> bool:
     """A write that waits on, for want of a page, or that ends without a reader and has moved less."""
-    if call.is_whole or not it.fdref.isdigit():
+    if not it.fdref.isdigit():
         return False
     if it.world.has_end(call.pipe, "r"):
-        return it.system == "?" and len(call.pipe.data) > call.pipe.capacity // 2 - PAGE
+        waits_on = "still" if call.is_whole else "?"
+        return it.system == waits_on and len(call.pipe.data) > call.pipe.capacity // 2 - PAGE
+    if call.is_whole:
+        return False
     return it.system == "error EPIPE" or (it.system.isdigit() and 0 < int(it.system) < int(it.fdref))
 
 
