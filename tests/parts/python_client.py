@@ -13,6 +13,7 @@ import time
 from collections.abc import Callable, Iterator, Sequence
 from functools import partial
 from typing import Any, NoReturn, TypeVar
+from unittest import mock
 
 from support import frames
 from support.counting import Case, Failure, require, same
@@ -26,6 +27,9 @@ Kind = TypeVar("Kind", bound=Exception)
 
 # How many processes exit, one after another.
 EXITS = 20
+
+# At most so many bytes of a client are read at once.
+PIECE = 64
 
 
 def joined(server: Server) -> fdref.Process:
@@ -236,12 +240,39 @@ def with_a_full_queue() -> None:
             for answer in (b"", answer_of(3, "5")):
                 taken.append(stack.enter_context(listener.socket.accept()[0]))
                 taken[-1].sendall(answer)
+            while taken[-1].recv(PIECE):
+                pass
+            taken[-1].close()
 
         thread = threading.Thread(target=accept, daemon=True)
         thread.start()
         with fdref.join(listener.path, within=SECONDS) as process:
             same((5, 3), (process.pid, process.place))
         thread.join(SECONDS)
+
+
+def with_a_server_that_stays() -> None:
+    """An exit does not wait for long for a server that never closes the connection, nor longer than was allowed."""
+    listener = Listener()
+    listener.socket.listen(2)
+    with contextlib.closing(listener), contextlib.ExitStack() as stack:
+        for within, limit in ((A_WHILE, None), (SECONDS, A_WHILE), (A_WHILE, SECONDS)):
+            answering = threading.Thread(target=lambda: stays(listener, stack), daemon=True)
+            answering.start()
+            process = fdref.join(listener.path, within=SECONDS)
+            process.timeout = limit
+            begun = time.monotonic()
+            with mock.patch("fdref.EXIT_WITHIN", within):
+                process.exit()
+            took = time.monotonic() - begun
+            require(A_WHILE <= took < SECONDS, f"it took {took} seconds, and {A_WHILE} were given")
+            answering.join(SECONDS)
+
+
+def stays(listener: Listener, stack: contextlib.ExitStack) -> None:
+    """Takes a connection, answers a join, and keeps it open."""
+    taken = stack.enter_context(listener.socket.accept()[0])
+    taken.sendall(answer_of(3, "5"))
 
 
 def with_another_server() -> None:
@@ -475,6 +506,7 @@ def cases(program: str) -> Iterator[Case]:
     yield "a call of the client that is broken off", partial(broken_off, program)
     yield "a server without a place", partial(without_a_place, program)
     yield "a queue without a place", with_a_full_queue
+    yield "a server that stays", with_a_server_that_stays
     yield "another server", with_another_server
     for is_taken in (False, True):
         yield f"a server that ends, connection taken: {is_taken}", partial(with_an_ended_server, is_taken)

@@ -97,6 +97,9 @@ HOUSE = 2**32 - 1
 # How many seconds the first answer is waited for where no limit is given. A server that has a place answers at once.
 FIRST_ANSWER = 10.0
 
+# How many seconds an exit waits at most for the server to close the connection. One that runs does so at once.
+EXIT_WITHIN = 10.0
+
 # What is told where the connection is at its end.
 CLOSED = "the server has closed the connection"
 
@@ -251,9 +254,11 @@ class Process:
 
     def exit(self) -> None:
         """Ends the process, as `os._exit` does: the server closes its descriptors. Its exit is recorded when this returns,
-        unless the connection was lost or a limit passed."""
+        unless the connection was lost, or the server did not close it within EXIT_WITHIN seconds, or `timeout` if that is
+        less."""
         with contextlib.suppress(OSError):
             self._socket.shutdown(socket.SHUT_WR)
+            self._socket.settimeout(EXIT_WITHIN if self.timeout is None else min(EXIT_WITHIN, self.timeout))
             # the server closes the connection once it has recorded the exit
             while self._socket.recv(ANSWER_MOST):
                 pass
