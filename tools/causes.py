@@ -142,9 +142,11 @@ def tells_number(parting: Parting) -> bool:
 
 
 def refuses_number(parting: Parting) -> bool:
-    """Whether an answer tells that a number may not be, or that no other one may."""
-    outcomes = [line.outcome for line in (parting.system, parting.fdref) if line]
-    return any(outcome in ("error EBADF", "error EMFILE") for outcome in outcomes)
+    """Whether an answer tells that a number may not be, or that no other one may. An F_DUPFD, which is a dup2 in the logs,
+    is EINVAL then."""
+    lines = [line for line in (parting.system, parting.fdref) if line]
+    is_past = any(word_of(line) == "dup2" and line.outcome == "error EINVAL" for line in lines)
+    return is_past or any(line.outcome in ("error EBADF", "error EMFILE") for line in lines)
 
 
 # ---- what differences have to do with

@@ -1147,6 +1147,8 @@ CAUSES = [
     Causes("a closed number, and another one that is made otherwise", "", "", CLOSED, OPEN, made="! 0 p0 made 3"),
     Causes("a limit of numbers", "! 1 p0 limit RLIMIT_NOFILE", ""),
     Causes("a number, and a limit of numbers", NOFILE, "setrlimit of RLIMIT_NOFILE", NEXT, ("error EMFILE", "1")),
+    Causes("F_DUPFD past a limit of numbers", NOFILE, "setrlimit of RLIMIT_NOFILE", A_COPY, ("error EINVAL", "7")),
+    Causes("another EINVAL, and a limit of numbers", NOFILE, "", A_READ, ("error EINVAL", "x")),
     Causes("a number, and a socket", "- 0 p0 makes socket", MAKES, A_NUMBER, TWO_NUMBERS, MAKES),
     Causes("no number, and a socket", "- 0 p0 makes socket", ""),
     Causes("a number, and a file that both open", "! 0 p0 path open\t/x", "", A_NUMBER, TWO_NUMBERS),
