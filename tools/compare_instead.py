@@ -2,7 +2,7 @@
 has to have done: so what the call left is compared, and so is all that comes after it.
 
 A pwrite that a system appends is one at the end. A call of more bytes than fdref takes is several, and what a system
-refuses changes nothing.
+refuses changes nothing. Of a write to a pipe that has less room it is the first bytes.
 """
 
 from collections.abc import Iterator
@@ -12,7 +12,7 @@ from support.plain_model import TRANSFER_MAX, Act, Description, Process, Reply, 
 
 from compare_limits import is_fewer_descriptors
 from compare_reasons import READ_MOST, Difference, follows_append, is_append, is_count, is_lseek_past_files
-from compare_reasons import is_pwrite_appended, is_reader_waiting, process_of
+from compare_reasons import is_paged_room, is_pwrite_appended, is_reader_waiting, is_room, process_of
 from compare_runs import act_of
 
 # ---- the acts
@@ -76,6 +76,11 @@ def ways(it: Difference) -> Iterator[tuple[int, list[Act]]]:
         yield it.place, parts(it.act, it.world)
         if is_append(it.act, it.at):
             yield it.place, parts(at_end(it.act, len(it.at.regular.data)), it.world)
+    elif fits in (is_room, is_paged_room) and it.words("write"):
+        if it.system == "error EAGAIN":
+            yield it.place, []
+        elif it.system.isdigit():
+            yield it.place, [part(it.act, 0, int(it.system))]
 
 
 # ---- a system that does it

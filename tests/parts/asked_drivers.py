@@ -191,6 +191,15 @@ LARGE_APPENDED = f"{FILED}p0 open a w,append\np0 write 1 61*65600\np0 pwrite 1 3
 READS = f"{FILED}p0 ftruncate 0 70000\np0 read 0 80000\np0 pread 0 1 80000\np0 write 0 x7a\n"
 NO_WAIT = "join\np0 pipe\np0 setfl 1 -,nonblock\np0 write 1 61*65600\np0 write 1 61*65600\np0 read 0 70000\n"
 FAR = f"{FILED}p0 lseek 0 2199023255552 set\np0 write 0 x7a\n"
+LITTLE_ROOM = """join
+p0 pipe
+p0 setfl 1 -,nonblock
+p0 write 1 61*508
+p0 write 1 62*600
+p0 write 1 63*600
+p0 read 0 508
+p0 read 0 9
+"""
 LATE = "join\njoin\np0 mkfifo f\np1 open f r\np0 open f w,nonblock\np0 open f r,nonblock\np0 open f w,nonblock\n"
 MANY_OPEN = f"{FILED}" + "".join(f"p0 dup2 0 {fd}\n" for fd in range(1, 20))
 FEW = f"{MANY_OPEN}p0 open a r\np0 dup 0\np0 pipe\np0 dup2 0 25\np0 close 25\np0 close 3\np0 open a r\n"
@@ -199,6 +208,7 @@ BY_FILES = "lseek past the greatest file of the file system is EINVAL (the syste
 BY_READER = "a FIFO whose reader waits in its open (own; page of open)"
 LOOKS = "the script does not ask for this: compare.py looks at what it has left"
 BY_APPEND = "pwrite under O_APPEND appends (the system departs; page of write (pwrite))"
+BY_ROOM = "room of a pipe (own; page of write)"
 BY_COUNT = "more than 65,536 bytes in a call (own; pages of read and write)"
 # Right systems: what they do otherwise has this reason, and nothing is left out of the comparison.
 ALL_COMPARED = [
@@ -212,6 +222,7 @@ ALL_COMPARED = [
     ("refuses-far-lseek", FAR, [BY_FILES]),
     ("opens-after-the-reader", LATE, [BY_READER]),
     ("has-20-descriptors", FEW, [BY_OPEN_MAX]),
+    ("has-smaller-pipes", LITTLE_ROOM, [BY_ROOM]),
 ]
 # Wrong ones: the same call leaves something else than the reason says.
 LEFT = [
@@ -226,6 +237,7 @@ LEFT = [
     ("refuses-far-lseek-and-moves", FAR, "p0 write 0 x7a = error EFBIG", "1"),
     ("opens-after-the-reader-and-before", LATE, "p1 resume = 0", "still"),
     ("has-20-descriptors-and-25", FEW, "p0 open a r = error EMFILE", "20"),
+    ("spoils-parts", LITTLE_ROOM, "p0 read 0 9 = x00000000", "x62626262"),
     ("reads-many-in-place", READS, "p0 lseek 0 0 cur = 1", "70000"),
 ]
 

@@ -84,7 +84,12 @@ TAKE_LESS: dict[str, Callable[[str], str]] = {
 
 
 # The pipes of systems that have other ones than the profile.
-ROOMY = {way: plain_model.Limits(capacity=16_384) for way in ("has-larger-pipes", "waits-beside-room")}
+ROOMY = {
+    "has-larger-pipes": plain_model.Limits(capacity=16_384),
+    "waits-beside-room": plain_model.Limits(capacity=16_384),
+    "has-smaller-pipes": plain_model.Limits(capacity=512),
+    "spoils-parts": plain_model.Limits(capacity=512),
+}
 # Systems that are right, with pipes of 4,096 bytes and a larger PIPE_BUF: from how many bytes on a write that waits is
 # told as one of which it is not seen how much went in.
 LARGER_PIPE_BUF, UNSEEN_FROM = 4_096, {"larger-pipe-buf": 4_097, "larger-pipe-buf-unseen": 513}
@@ -121,6 +126,14 @@ def given_or_ended(call: WaitingRead, world: plain_model.World) -> tuple[plain_m
     return world.get(call.pipe, call.count), True
 
 
+def spoiled_part(
+    world: plain_model.World, process: plain_model.Process, at: plain_model.Description, data: bytes
+) -> plain_model.Reply:
+    """A write to a pipe of which only a part goes in, as other bytes."""
+    assert at.pipe
+    return WRITE_END(world, process, at, data if len(data) <= at.pipe.room() else bytes(len(data)))
+
+
 def turned_pipe(world: plain_model.World, process: plain_model.Process) -> plain_model.Reply:
     """A pipe whose writing end has the lower number."""
     reading, writing = str(PIPE(world, process)).split(" ")
@@ -129,7 +142,7 @@ def turned_pipe(world: plain_model.World, process: plain_model.Process) -> plain
     return f"{writing} {reading}"
 
 
-PIPE = plain_model.World.pipe
+PIPE, WRITE_END = plain_model.World.pipe, plain_model.World.write_end
 
 def take_last_first(run: settled_driver.Settled, act: plain_model.Act) -> None:
     """Lets an act take place, and all that go on because of it, those of the last process first."""
@@ -315,6 +328,8 @@ OTHERWISE: dict[str, list[tuple[type, str, Callable[..., object]]]] = {
     "has-20-descriptors": [(plain_model, "lowest_free", few), (plain_model.World, "dup2", few_to)],
     "has-20-descriptors-and-25": [(plain_model, "lowest_free", few)],
     "has-larger-pipes": [],
+    "has-smaller-pipes": [],
+    "spoils-parts": [(plain_model.World, "write_end", spoiled_part)],
     "waits-beside-room": [
         (plain_model.World, "write", waits_beside),
         (WaitingWrite, "is_ready", lambda call, world: not world.has_end(call.pipe, "r")),
