@@ -606,7 +606,7 @@ static int64_t asked_transfer(struct fdref_act act, char *bytes)
     return moved;
 }
 
-/* A transfer of the system that is to be logged. The signal of EPIPE comes after that. */
+/* A transfer of the system that is to be logged. The signal of EPIPE comes after that; of others nothing is changed. */
 static void begin_moving(struct moving *it)
 {
     sigset_t pipes;
@@ -618,7 +618,11 @@ static void begin_moving(struct moving *it)
 static void end_moving(struct moving *it)
 {
     int error = errno;
-    pthread_sigmask(SIG_SETMASK, &it->signals, NULL);
+    sigset_t pipes;
+    sigemptyset(&pipes);
+    if (is_write(it->going.act.kind) && !sigismember(&it->signals, SIGPIPE))
+        sigaddset(&pipes, SIGPIPE);
+    pthread_sigmask(SIG_UNBLOCK, &pipes, NULL);
     errno = error;
 }
 

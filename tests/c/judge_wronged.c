@@ -133,6 +133,16 @@ static void look(void)
         printf("%ld\n", (long)told.st_size);
 }
 
+/* Ends by whether the handler of a signal has run that came after a read. */
+static void heed(void)
+{
+    signal(SIGUSR1, hear);
+    write(ends[1], "x", 1);
+    read(ends[0], bytes, 1);
+    raise(SIGUSR1);
+    exit(heard != 1);
+}
+
 static void copy_to(void)
 {
     fclose(fopen("/dev/null", "r"));
@@ -154,6 +164,7 @@ int main(int count, char **words)
         {"dup2-zero", copy_to},         {"pipe-turned", copy_to},
         {"pipe-broken", break_pipe},    {"early-signal", hear_signals},
         {"stat-size", look},            {"never-back", copy_to},
+        {"mask-kept", heed},
     };
     if (count != 2 || pipe(ends) != 0)
         return 1;

@@ -13,7 +13,8 @@
    never-back      a read never comes back
    stat-size       stat tells a byte more
    early-signal    a read is EINTR though no handler has run
-   pipe-broken     a write that is EPIPE ends a process that ignores SIGPIPE */
+   pipe-broken     a write that is EPIPE ends a process that ignores SIGPIPE
+   mask-kept       a read leaves all signals blocked */
 
 #define _GNU_SOURCE
 
@@ -36,6 +37,10 @@ static int is_wrong(const char *how)
 
 ssize_t read(int fd, void *to, size_t count)
 {
+    sigset_t all;
+    sigfillset(&all);
+    if (is_wrong("mask-kept"))
+        sigprocmask(SIG_BLOCK, &all, NULL);
     while (is_wrong("never-back"))
         pause();
     ssize_t done = is_wrong("early-signal") ? -1 : syscall(SYS_read, fd, to, count);

@@ -525,6 +525,7 @@ def cases(bench: Bench) -> Iterator[Case]:
     yield "a read of more than was asked for", partial(finds_long_reads, bench)
     for word, line in WRONGED.items():
         yield f"a wrong call: {word}", partial(finds_wrong_calls, bench, word, line)
+    yield "a mask of signals that a read has changed", partial(sees_kept_mask, bench)
     yield "the library itself in LD_PRELOAD", partial(leaves_out_itself, bench)
     yield "a program that takes long", partial(tells_long_runs, bench)
     yield "a server that leaves a process", partial(is_left_by_server, bench)
@@ -656,19 +657,31 @@ WRONGED = {
 }
 
 
-def finds_wrong_calls(bench: Bench, word: str, line: str) -> None:
-    """A wrong answer of a C library is a difference. Without that library the program has none."""
+def judged_wronged(bench: Bench, word: str) -> Ran:
+    """A program that is judged with a C library that is wrong in a way. Without that library nothing differs."""
     library, program = bench.path("wrong.so"), bench.compiled("judge_wronged")
     if not os.path.exists(library):
         source = str(C_TESTS / "wrong_calls.c")
         compiles([bench.compiler, "-O2", *WARNINGS, "-shared", "-fPIC", source, "-o", library, "-ldl"])
     shim = ("--shim", bench.shim(), *SOON)
-    ran = bench.judged(*shim, "--preload", library, program, word, variables=(f"WRONG={word}",))
+    right = bench.judged(*shim, program, word)
+    require(right.status == 0, right.said())
+    return bench.judged(*shim, "--preload", library, program, word, variables=(f"WRONG={word}",))
+
+
+def finds_wrong_calls(bench: Bench, word: str, line: str) -> None:
+    """A wrong answer of a C library is a difference."""
+    ran = judged_wronged(bench, word)
     said = ran.stdout.decode("ascii").splitlines()
     require(ran.status == 1 and any(it.startswith(line) for it in said), ran.said())
     require(said[-1].startswith("verdict: a difference: "), ran.said())
-    right = bench.judged(*shim, program, word)
-    require(right.status == 0, right.said())
+
+
+def sees_kept_mask(bench: Bench) -> None:
+    """A read that leaves signals blocked is no agreement: the mask stays as the C library has left it."""
+    ran = judged_wronged(bench, "mask-kept")
+    last = ran.stdout.decode("ascii").splitlines()[-1]
+    require(ran.status == 3 and last.startswith(f"{NOT_JUDGED}the two runs end otherwise"), ran.said())
 
 
 def leaves_out_itself(bench: Bench) -> None:
