@@ -122,8 +122,8 @@ class Standing:
 
 def standing_in(path: Path) -> Standing:
     """Where the processes of a trace stand. Where a call can go on it is looked once more, a little later."""
-    if path.exists() and not path.is_file():
-        raise BadTrace("it is no regular file, of which somebody else may want the bytes")
+    if path.is_fifo():
+        raise BadTrace("it is a FIFO, of which somebody else may want the bytes")
     trace = path.read_bytes()
     with Long(f"goes through a trace of {len(trace):,} bytes, record by record", "waiting.py"):
         first = Standing(trace)

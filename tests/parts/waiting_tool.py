@@ -2,6 +2,7 @@
 
 import contextlib
 import io
+import os
 import sys
 import tempfile
 import time
@@ -154,9 +155,11 @@ def no_trace() -> None:
     for trace, fault in ((b"FDTRACE9", b"malformed 0"), (trace_of(["0 p0 resume = 0"]), b"illegal 0 expected none")):
         ran = told(trace)
         require(ran.status == 3 and not ran.stdout and fault in ran.stderr, ran.said())
-    for path, fault in (("/no/such/trace", b"No such file"), ("/dev/null", b"it is no regular file")):
-        ran = run([sys.executable, TOOL, path])
-        require(ran.status == 3 and fault in ran.stderr, ran.said())
+    with tempfile.TemporaryDirectory(prefix="fdref-") as folder:
+        os.mkfifo(f"{folder}/fifo")
+        for name, fault in (("none", b"No such file"), ("fifo", b"it is a FIFO")):
+            ran = run([sys.executable, TOOL, f"{folder}/{name}"])
+            require(ran.status == 3 and fault in ran.stderr, ran.said())
 
 
 def random_case(seed: str, number: int) -> None:
