@@ -43,7 +43,7 @@ from support.commands import add_capacity, add_program, capacity_words, program_
 from support.drivers import compiled
 from support.ordering import ENDS_OF_WAITING
 from support.plain_scripts import plain_line
-from support.plain_model import Limits
+from support.plain_model import LINK_MAX, Limits
 from support.running import CannotRun
 from support.runs import ALL_RECORDS, Line
 from support.shrinking import shrunk
@@ -53,10 +53,10 @@ from support.texts import several
 from compare_instead import ways
 from compare_limits import FEWER
 from compare_lines import Asked, first_unfit, in_other_order, is_at_once, moved
-from compare_reasons import OWN, REASONS, Difference, Reason, appended_to, follows_append, process_of
+from compare_reasons import OWN, REASONS, Difference, Reason, appended_to, follows_append, is_more_links, process_of
 from compare_reasons import reason_of, told_reason
 from compare_runs import Known, act_of, check_alike, ends_of_closing, is_told_back, places_of_script, together
-from compare_walks import CLASSES, class_of, random_lines, with_marks
+from compare_walks import CLASSES, MANY_LINKS, class_of, random_lines, with_marks
 from waits import Long
 
 LINES_BEFORE = 12
@@ -90,6 +90,7 @@ class Beside:
 
     def __init__(self, lines: list[Line], limits: Limits, known: Known) -> None:
         self.run = plain_model.Run(ALL_RECORDS, limits)
+        self.run.world.link_max = known.link_max
         self.lines = lines
         self.known = known
         self.ends = ends_of_closing(lines)
@@ -122,11 +123,12 @@ class Beside:
         return together(outcomes, self.lines[place].outcome)
 
 
-def compared(asked: Asked, lines: list[bytes]) -> tuple[list[Line], list[Difference]]:
-    """Runs a script once: the lines of the system, and the differences up to the first that sets the two apart."""
+def compared(asked: Asked, lines: list[bytes], link_max: int = LINK_MAX) -> tuple[list[Line], list[Difference]]:
+    """Runs a script once: the lines of the system, and the differences up to the first that sets the two apart. Where
+    files have more links than fdref's, its model is asked."""
     system, turned = asked.exchanged(lines)
-    known = Known()
-    fdref, beside = asked.fdref(system), Beside(system, asked.limits, known)
+    known = Known(link_max=min(link_max, links_given(system, asked.limits)) if link_max > LINK_MAX else link_max)
+    fdref, beside = asked.fdref(system, known), Beside(system, asked.limits, known)
     found: list[Difference] = []
     while True:
         place = first_unfit(asked, system, fdref, known)
@@ -153,6 +155,17 @@ def compared(asked: Asked, lines: list[bytes]) -> tuple[list[Line], list[Differe
             return system, found
 
 
+def links_given(lines: list[Line], limits: Limits) -> int:
+    """How many links a system gives a file by the first refusal of one more, or many where it refuses none."""
+    beside = Beside(lines, limits, Known(link_max=MANY_LINKS))
+    for place, line in enumerate(lines):
+        if " link " in line.act and line.outcome == "error EMLINK":
+            world = beside.world_before(place)
+            file = world.names.get(plain_model.read_act(line.act.encode()).fields[0])
+            return max(world.links(file) if file else 0, LINK_MAX)
+    return MANY_LINKS
+
+
 def difference_at(asked: Asked, beside: Beside, fdref: list[Line], place: int) -> Difference:
     """The difference in a line, with its reason, if it has one."""
     system = beside.lines
@@ -161,6 +174,7 @@ def difference_at(asked: Asked, beside: Beside, fdref: list[Line], place: int) -
     difference.room_seen = asked.room_seen
     difference.size_before, difference.ended = beside.sizes.get(place - 1), beside.ended
     difference.for_fdref = {at: beside.known.given(system, at) for at in beside.known.instead}
+    difference.is_of_model = beside.known.is_of_model()
     difference.reason = reason_in(asked, difference)
     # no reason excuses an fdref that the model contradicts
     if system[place].act and place not in beside.ends and difference.fdref != beside.outcome_at(place):
@@ -217,8 +231,11 @@ def checked(asked: Asked, lines: list[bytes]) -> Checked:
         here = [placed(numbered, system, it) for it in found]
         result.differences = [it for _, it in sorted(apart + here, key=lambda it: it[0])]
         last = found[-1] if found else None
-        if last and not last.reason:
-            result.unexplained = last
+        unexplained = last if last and not last.reason else None
+        if last and last.reason and last.reason.fits is is_more_links:
+            unexplained = unexplained_with_links(asked, [line for at, line in numbered if not marked[at][1]])
+        if unexplained:
+            result.unexplained = unexplained
             return result
         if not last or last.is_settled():
             return result
@@ -229,6 +246,19 @@ def checked(asked: Asked, lines: list[bytes]) -> Checked:
         result.struck.append(result.last)
         apart, numbered = [*apart, here[-1]], shorter
     return result
+
+
+def unexplained_with_links(asked: Asked, lines: list[bytes]) -> Difference | None:
+    """The first difference without a reason of a script in which files have more links than fdref's: from fdref's model,
+    which has as many as the system gives."""
+    marked = with_marks(lines, asked.limits, MANY_LINKS)
+    system, found = compared(asked, [line for line, _ in marked], MANY_LINKS)
+    last = found[-1] if found else None
+    if last and not last.reason:
+        of_script = places_of_script(system)
+        last.is_look = last.place in of_script and marked[of_script.index(last.place)][1]
+        return last
+    return None
 
 
 # ---- a larger PIPE_BUF
@@ -271,7 +301,8 @@ def told(difference: Difference) -> str:
     parts = [f"  {line.place} {line.act} = {line.outcome}{other}" for line, other in lines]
     line = difference.lines[difference.place]
     parts += [f"system: {line.place} {line.act} = {difference.system}"]
-    parts += [f"fdref:  {line.place} {line.act} = {difference.fdref}"]
+    parts += [f"{'model' if difference.is_of_model else 'fdref'}:  {line.place} {line.act} = {difference.fdref}"]
+    parts += [f"the model is fdref's, but for more links of a file than {LINK_MAX}"] if difference.is_of_model else []
     parts += [told_reason(difference.reason), *told_waiting(difference)]
     parts += ["the script does not ask for this: compare.py looks at what it has left"] if difference.is_look else []
     return "\n".join(map(clipped, parts))

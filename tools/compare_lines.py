@@ -6,6 +6,7 @@ Which of the calls that came back together was served first is not seen on a sys
 import itertools
 from pathlib import Path
 
+from support import plain_model
 from support.commands import capacity_words
 from support.counting import Failure
 from support.plain_model import DEFAULTS, PIPE_BUF, TRANSFER_MAX, Limits
@@ -161,9 +162,20 @@ class Asked:
         places = [place for place, line in enumerate(lines) if line.act and place not in ends]
         acts = [text for place in places for text in known.given(lines, place)]
         records = min(2 * (len(lines) + len(acts)) + 200, ALL_RECORDS)
-        words = [*self.program, "replay", "--records", str(records), *capacity_words(self.limits)]
-        text = self.run(words, "".join(f"{act}\n" for act in acts).encode(), "fdref").decode("ascii")
-        return known.joined(lines, [line_of(line) for line in text.splitlines()])
+        if known.is_of_model():
+            text = self.model(acts, records, known.link_max)
+        else:
+            words = [*self.program, "replay", "--records", str(records), *capacity_words(self.limits)]
+            text = self.run(words, "".join(f"{act}\n" for act in acts).encode(), "fdref")
+        return known.joined(lines, [line_of(line) for line in text.decode("ascii").splitlines()])
+
+    def model(self, acts: list[str], records: int, link_max: int) -> bytes:
+        """What fdref's model prints for acts, with so many links of a file at most."""
+        run = plain_model.Run(records, self.limits)
+        run.world.link_max = link_max
+        for act in acts:
+            run.take(plain_model.read_act(act.encode()))
+        return run.text()
 
 
 def first_unfit(asked: Asked, system: list[Line], fdref: list[Line], known: Known) -> int | None:

@@ -8,7 +8,7 @@ from collections.abc import Callable, Iterator
 from typing import Any, NamedTuple
 
 from support import plain_model, walks
-from support.plain_model import LINK_MAX, NAME_MAX, OFFSET_MAX, OPEN_MAX, PIPE_BUF, TRANSFER_MAX
+from support.plain_model import NAME_MAX, OFFSET_MAX, OPEN_MAX, PIPE_BUF, TRANSFER_MAX
 from support.runs import Line
 
 from compare_lines import PAGE, is_moved, moved
@@ -53,6 +53,8 @@ class Difference:
         self.size_before: int | None = None
         # the writes in which processes waited that have ended
         self.ended: list[plain_model.WaitingWrite] = []
+        # whether fdref's model was asked in its place, with more links
+        self.is_of_model = False
 
     def instead(self, **values: Any) -> "Difference":
         """The same, but for these values."""
@@ -163,7 +165,7 @@ def due_of_names(it: Difference) -> set[str]:
         "ENOENT": not all(it.names()) or (not file and not it.words("mkfifo")),
         "ENAMETOOLONG": any(len(name) > NAME_MAX for name in it.names()),
         "EEXIST": it.words("link", "mkfifo") and new in it.world.names,
-        "EMLINK": it.words("link") and file is not None and it.world.links(file) >= LINK_MAX,
+        "EMLINK": it.words("link") and file is not None and it.world.links(file) >= it.world.link_max,
     }
     return {error for error, is_due in errors.items() if is_due}
 

@@ -70,12 +70,22 @@ def places_of_script(lines: Sequence[Line]) -> list[int]:
 
 
 class Known:
-    """What is known of a run: the places of the differences that have a reason, and for places of others the acts that
-    fdref is given instead."""
+    """What is known of a run: the places of the differences that have a reason, for places of others the acts that
+    fdref is given instead, and how many links a file has at most, which are more than fdref's where its model is
+    asked."""
 
-    def __init__(self, instead: Mapping[int, Sequence[plain_model.Act]] = MappingProxyType({})) -> None:
+    def __init__(
+        self,
+        instead: Mapping[int, Sequence[plain_model.Act]] = MappingProxyType({}),
+        link_max: int = plain_model.LINK_MAX,
+    ) -> None:
         self.places: set[int] = set()
         self.instead = instead
+        self.link_max = link_max
+
+    def is_of_model(self) -> bool:
+        """Whether fdref's model is asked in its place, which has more links."""
+        return self.link_max > plain_model.LINK_MAX
 
     def given(self, lines: Sequence[Line], place: int) -> list[str]:
         """The acts that fdref is given for a line, as they stand in a script."""
@@ -83,7 +93,7 @@ class Known:
 
     def but(self, place: int, acts: Sequence[plain_model.Act]) -> "Known":
         """The same, where it is given these for a line."""
-        other = Known({**self.instead, place: acts})
+        other = Known({**self.instead, place: acts}, self.link_max)
         other.places = set(self.places)
         return other
 

@@ -5,12 +5,15 @@ from collections.abc import Callable, Collection, Iterator
 
 from support import plain_model, walks
 from support.contents import BLOCK
-from support.plain_model import DEFAULTS, OPEN_MAX, TRANSFER_MAX, Limits
+from support.plain_model import DEFAULTS, LINK_MAX, OPEN_MAX, TRANSFER_MAX, Limits
 from support.runs import Settled, line_of
 
 from compare_instead import Appending, is_large, is_transfer, parts, pieces_of
 from compare_reasons import is_append, name_fault, names_of, process_of
 from compare_runs import is_told_back
+
+# More links than any file of a script has.
+MANY_LINKS = 2**31
 
 # ---- looks
 
@@ -20,12 +23,15 @@ def with_looks(lines: list[bytes], limits: Limits = DEFAULTS) -> list[bytes]:
     return [line for line, _ in with_marks(lines, limits)]
 
 
-def with_marks(lines: list[bytes], limits: Limits = DEFAULTS) -> list[tuple[bytes, bool]]:
+def with_marks(
+    lines: list[bytes], limits: Limits = DEFAULTS, link_max: int = LINK_MAX
+) -> list[tuple[bytes, bool]]:
     """A script with acts that look at what a call has left that systems make otherwise, at calls that wait on from
     before a setfl, at each call that can go on because of an act and, at the end, at all that is there. With each act
     stands whether it is such a look."""
     beside, appending = Settled(limits), Settled(limits)
     appending.world = Appending(limits)
+    beside.world.link_max = appending.world.link_max = link_max
     looked: list[tuple[bytes, bool]] = []
     for line in lines:
         act = plain_model.read_act(line)

@@ -203,6 +203,10 @@ p0 read 0 9
 LATE = "join\njoin\np0 mkfifo f\np1 open f r\np0 open f w,nonblock\np0 open f r,nonblock\np0 open f w,nonblock\n"
 MANY_OPEN = f"{FILED}" + "".join(f"p0 dup2 0 {fd}\n" for fd in range(1, 20))
 FEW = f"{MANY_OPEN}p0 open a r\np0 dup 0\np0 pipe\np0 dup2 0 25\np0 close 25\np0 close 3\np0 open a r\n"
+LINKED = FILED + "".join(f"p0 link a {name}\n" for name in "bcdefgh")
+LINKS = f"{LINKED}p0 link a i\np0 link b j\n"
+UNLINKED = f"{LINKS}p0 rename i k\np0 unlink a\np0 unlink b\np0 link j l\np0 link c m\n"
+BY_LINKS = "more than 8 links (own; page of link)"
 BY_OPEN_MAX = "fewer than 32 descriptors (own; XBD limits.h, _POSIX_OPEN_MAX)"
 BY_FILES = "lseek past the greatest file of the file system is EINVAL (the system departs; page of lseek)"
 BY_READER = "a FIFO whose reader waits in its open (own; page of open)"
@@ -240,6 +244,36 @@ LEFT = [
     ("spoils-parts", LITTLE_ROOM, "p0 read 0 9 = x00000000", "x62626262"),
     ("reads-many-in-place", READS, "p0 lseek 0 0 cur = 1", "70000"),
 ]
+
+
+# Systems whose files have more links than fdref's, and what is told last of the scripts that make them.
+MORE_LINKS = [
+    ("has-many-links", LINKS),
+    ("has-many-links", UNLINKED),
+    ("has-10-links", f"{LINKS}p0 link a k\np0 unlink i\np0 link a l\np0 link a k\n"),
+]
+WRONG_LINKS = [
+    ("links-another-name", LINKS, "p0 open i r = error ENOENT", "1"),
+    ("counts-few-links", LINKS, "p0 fstat 0 = regular 6 8", "regular 6 10"),
+    ("counts-few-links", f"{UNLINKED}p0 link d n\n", "p0 fstat 0 = regular 6 8", "regular 6 11"),
+]
+
+
+def links_are_compared(program: str, folder: str, way: str, script: str) -> None:
+    """What more links than fdref's leave is compared with its model."""
+    done = compared(program, folder, way, script)
+    require(done.status == 0 and BY_LINKS.encode() in done.stdout, done.said())
+
+
+def links_are_told(program: str, folder: str, way: str, script: str, line: str, wanted: str) -> None:
+    """More links than fdref's that leave something else are told, beside what its model answers."""
+    done = compared(program, folder, way, script)
+    lines = done.stdout.decode().splitlines()
+    place = next((place for place, text in enumerate(lines) if text.startswith("system: ")), 0)
+    require(done.status == 1 and lines[place].endswith(f" {line}"), done.said())
+    require(lines[place + 1].startswith("model: ") and lines[place + 1].endswith(f" = {wanted}"), f"{lines}")
+    same("the model is fdref's, but for more links of a file than 8", lines[place + 2])
+    same(["reason: none", LOOKS], lines[place + 3 : place + 5])
 
 
 def all_is_compared(program: str, folder: str, way: str, script: str, reasons: Sequence[str]) -> None:
@@ -434,6 +468,10 @@ def cases(program: str, folder: str) -> Iterator[Case]:
         yield f"{way}, {script!r}", partial(all_is_compared, program, folder, way, script, reasons)
     for left in LEFT:
         yield f"{left[0]}, {left[1]!r}", partial(left_is_told, program, folder, *left)
+    for way, script in MORE_LINKS:
+        yield f"{way}, {script!r}", partial(links_are_compared, program, folder, way, script)
+    for links in WRONG_LINKS:
+        yield f"{links[0]}, {links[1]!r}", partial(links_are_told, program, folder, *links)
     for way, script in TAKE_LESS.items():
         yield way, partial(less_is_told, program, folder, way, script)
     for beside in BESIDE:

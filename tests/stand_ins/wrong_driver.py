@@ -269,6 +269,34 @@ def late_and_made(world: plain_model.World, process: plain_model.Process, name: 
         raise
 
 
+LINK, LINKS, FSTAT = plain_model.World.link, plain_model.World.links, plain_model.World.fstat
+
+
+def link_to(most: int) -> Callable[..., object]:
+    """A link where a file has so many links at most."""
+
+    def link(world: plain_model.World, process: plain_model.Process, old: bytes, new: bytes) -> object:
+        world.link_max = most
+        return LINK(world, process, old, new)
+
+    return link
+
+
+def link_by_another_name(world: plain_model.World, process: plain_model.Process, old: bytes, new: bytes) -> object:
+    """A link that makes another name than it is told where a file has as many as in the profile."""
+    is_past = old in world.names and LINKS(world, world.names[old]) >= plain_model.LINK_MAX
+    put = link_to(MANY)(world, process, old, new)
+    if is_past:
+        world.names[b"not." + new] = world.names.pop(new)
+    return put
+
+
+def told_few_links(world: plain_model.World, process: plain_model.Process, fd: int) -> object:
+    """An fstat that never tells more links than in the profile."""
+    kind, size, links = str(FSTAT(world, process, fd)).split(" ")
+    return f"{kind} {size} {min(int(links), plain_model.LINK_MAX)}"
+
+
 LOWEST, DUP2 = plain_model.lowest_free, plain_model.World.dup2
 # Descriptors of a system that has as few as each system has.
 FEW = 20
@@ -327,6 +355,10 @@ OTHERWISE: dict[str, list[tuple[type, str, Callable[..., object]]]] = {
     "opens-after-the-reader-and-before": [(plain_model.World, "open", late_and_made)],
     "has-20-descriptors": [(plain_model, "lowest_free", few), (plain_model.World, "dup2", few_to)],
     "has-20-descriptors-and-25": [(plain_model, "lowest_free", few)],
+    "has-many-links": [(plain_model.World, "link", link_to(MANY))],
+    "has-10-links": [(plain_model.World, "link", link_to(10))],
+    "links-another-name": [(plain_model.World, "link", link_by_another_name)],
+    "counts-few-links": [(plain_model.World, "link", link_to(MANY)), (plain_model.World, "fstat", told_few_links)],
     "has-larger-pipes": [],
     "has-smaller-pipes": [],
     "spoils-parts": [(plain_model.World, "write_end", spoiled_part)],

@@ -216,6 +216,7 @@ class World:
 
     def __init__(self, limits: Limits = DEFAULTS) -> None:
         self.limits = limits
+        self.link_max = LINK_MAX
         self.names: dict[bytes, Named] = {}
         self.processes: dict[int, Process] = {}
         self.next_number = 0
@@ -315,7 +316,7 @@ class World:
         check_name(new)
         require(old in self.names, "ENOENT")
         require(new not in self.names, "EEXIST")
-        require(self.links(self.names[old]) < LINK_MAX, "EMLINK")
+        require(self.links(self.names[old]) < self.link_max, "EMLINK")
         require(len(self.names) < NAMES_MAX, "ENOSPC")
         self.names[new] = self.names[old]
         return "ok"
