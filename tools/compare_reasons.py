@@ -276,23 +276,69 @@ def may_give(it: Difference, outcome: str) -> bool:
     """Whether a write of some bytes to a pipe may give this, by its page, whatever room there is.
 
     At most PIPE_BUF bytes go in whole or not at all. Under nonblock no write waits, and of more bytes those go in that
-    fit: some of them, or PIPE_BUF where the pipe is empty. Without it no write is EAGAIN, and one that comes back has
-    written all, but where no reader is left: fdref gives a part then, too.
+    fit: some of them, or so many that the pipe holds PIPE_BUF, though of more than a page's some of the last page.
+    Without it no write is EAGAIN, and one that comes back has written all, but where no reader is left: fdref gives a
+    part then, too.
     """
     assert it.at and it.at.pipe
     whole, held, waits = it.count(), len(it.at.pipe.data), not it.at.nonblock
     has_parts = whole > PIPE_BUF and (not waits or (it.fdref.isdigit() and int(it.fdref) < whole))
     if outcome.isdigit():
-        least = PIPE_BUF if not waits and not held else 1
+        is_filled = not waits and (not held or whole <= PAGE)
+        least = max(PIPE_BUF - held, 1) if is_filled else 1
         return (least if has_parts else whole) <= int(outcome) <= whole
     if outcome.startswith("parked "):
         return waits and (outcome == "parked ?" or moved(outcome) < (whole if whole > PIPE_BUF else 1))
     return outcome == "error EAGAIN" and held > 0 and not waits
 
 
+def put_before_read(it: Difference, pipe: plain_model.Pipe) -> int:
+    """How many bytes later writes put into a pipe on the system, up to the first line that may be a read of it."""
+    ends = {number: {fd for fd, at in who.table.items() if at.pipe is pipe} for number, who in it.world.processes.items()}
+    has_names = any(walks.is_fifo(at.file) for who in it.world.processes.values() for at in who.table.values())
+    put = 0
+    for line in it.lines[it.place + 1 :]:
+        who, word, *fields = f"{line.act}  ".split(" ")
+        own = ends.setdefault(line.number(), set()) if line.act and who != "house" else set()
+        is_end = fields[:1] and fields[0].isdigit() and int(fields[0]) in own
+        if word == "resume" or (word == "read" and (is_end or has_names)):
+            break
+        if word == "write" and is_end and line.outcome.isdigit():
+            put += int(line.outcome)
+        elif word in ("dup", "dup2") and line.outcome.isdigit():
+            own.discard(int(line.outcome))
+            own.update({int(line.outcome)} if is_end else ())
+        elif word == "close" and line.outcome == "ok":
+            own -= {int(fields[0])}
+        elif word == "fork" and line.outcome.isdigit():
+            ends[int(line.outcome)] = set(own)
+        elif word == "exit":
+            own.clear()
+    return put
+
+
+def most_after(it: Difference) -> int:
+    """How many bytes may still go into a pipe before the next read, where the system had no room for all of a write: none
+    where it put in what fits, and fewer than were asked for where that was nothing. A page that is not full may take
+    more of another write."""
+    whole, is_part = it.count(), it.system.isdigit()
+    if is_part:
+        return 0 if it.counts_bytes or whole <= PAGE else PAGE - 1
+    return whole - 1 if it.counts_bytes else min(whole, PAGE) - 1
+
+
+def room_left(it: Difference) -> int:
+    """How many bytes more than may be go into a pipe before the next read, after a write for which the system had no
+    room."""
+    if not it.words("write") or not it.at or not it.at.pipe or it.system == str(it.count()) or not is_moved(it.system):
+        return 0
+    put = put_before_read(it, it.at.pipe)
+    return put if put > most_after(it) else 0
+
+
 def is_room(it: Difference) -> bool:
     """A write to a pipe that has more room on the system than in the profile, or less."""
-    if not it.words("write") or not it.at or not it.at.pipe or it.has_same_room:
+    if not it.words("write") or not it.at or not it.at.pipe or it.has_same_room or room_left(it):
         return False
     whole, held = it.count(), len(it.at.pipe.data)
     is_less = it.system != str(whole) and held + whole > PIPE_BUF
@@ -322,7 +368,7 @@ def is_paged_room(it: Difference) -> bool:
     held, fdref = len(pipe.data), moved(it.fdref)
     # how many bytes of a large write have gone in is not seen on the system while it waits
     is_less = fdref > 0 if it.system == "parked ?" else moved(it.system) < fdref
-    return is_less and held > 0 and held + it.count() > pipe.capacity // 2 - PAGE
+    return is_less and held > 0 and held + it.count() > pipe.capacity // 2 - PAGE and not room_left(it)
 
 
 def is_paged_resume(it: Difference, call: plain_model.WaitingWrite) -> bool:

@@ -190,6 +190,8 @@ UNROOMY = [
     # what was seen to have room for as many bytes
     (f"{HELD_NONBLOCK}8 9 p0 read 0 450 = 61*450\n", "20 21 p0 write 1 61*100 = error EAGAIN", "100"),
     (f"{HELD_NONBLOCK}8 9 p0 read 0 700 = 61*700\n", "20 21 p0 write 1 61*600 = 1", "600"),
+    # a pipe that would hold less than PIPE_BUF bytes
+    (f"{HELD_NONBLOCK}8 9 p0 read 0 900 = 61*900\n", "20 21 p0 write 1 61*600 = 411", "600"),
 ]
 # Writes to a pipe with less room than in fdref, which is asked with more.
 LESS_ROOM = [
@@ -270,6 +272,13 @@ CONTRADICTED = [
         "42 43 p0 mkfifo abcdefghijklmno = ok",
     ),
 ]
+# Writes for which there is said to be no room, which a later one contradicts that comes before a read.
+AGAIN = "22 23 p0 write 1 61*600 = 1"
+CONTRADICTED += [
+    (HELD_NONBLOCK, "20 21 p0 write 1 61*600 = 1", "24", AGAIN),
+    (HELD_NONBLOCK, "20 21 p0 write 1 61*600 = 1", "24", "22 23 p0 dup 1 = 2\n24 25 p0 write 2 x61 = 1"),
+    (HELD_NONBLOCK, "20 21 p0 write 1 61*20 = error EAGAIN", "20", "22 23 p0 write 1 61*20 = 20"),
+]
 # The nearest that it does not contradict, and the reason.
 CONSISTENT = [
     (TWENTY, "40 41 p0 open a r = error EMFILE", "20", FEWER, "42 43 p0 close 3 = ok\n44 45 p0 open a r = 3"),
@@ -277,6 +286,12 @@ CONSISTENT = [
     (ALL, "40 41 p0 open a r = 32", "error EMFILE", MORE, "42 43 p0 open a r = error EMFILE"),
     (FILED, f"40 41 p0 pwrite 0 {2**32} x61 = error EFBIG", "1", SMALLER, f"42 43 p0 ftruncate 0 {2**32} = ok"),
     (FILED, "40 41 p0 unlink abcdefghijklmno = error ENAMETOOLONG", "error ENOENT", LONG, "42 43 p0 mkfifo b = ok"),
+]
+ROOM = "room of a pipe (own; page of write)"
+WHERE_ROOMY = "where a pipe has room for 65,536 bytes"
+CONSISTENT += [
+    (HELD_NONBLOCK, "20 21 p0 write 1 61*600 = 1", f"600, {WHERE_ROOMY}", ROOM, f"21 21 p0 read 0 1 = x61\n{AGAIN}"),
+    (HELD_NONBLOCK, "20 21 p0 write 1 61*20 = error EAGAIN", f"20, {WHERE_ROOMY}", ROOM, "22 23 p0 write 1 61*19 = 19"),
 ]
 # Writes of more bytes than a call of the profile moves, to a pipe: what no room explains.
 MANY_BYTES = [
