@@ -34,7 +34,7 @@ import shlex
 import signal
 import sys
 import tempfile
-from collections.abc import Iterator, Sequence
+from collections.abc import Iterable, Iterator, Sequence
 from pathlib import Path
 from typing import Self
 
@@ -53,8 +53,8 @@ from support.texts import several
 from compare_instead import ways
 from compare_limits import FEWER
 from compare_lines import Asked, first_unfit, in_other_order, is_at_once, moved
-from compare_reasons import OWN, REASONS, Difference, Reason, appended_to, follows_append, is_more_links, process_of
-from compare_reasons import reason_of, told_reason
+from compare_reasons import OWN, REASONS, Difference, Reason, appended_to, follows_append, is_more_links, is_room
+from compare_reasons import process_of, reason_of, room_left, told_reason
 from compare_runs import Known, act_of, check_alike, ends_of_closing, is_told_back, places_of_script, together
 from compare_walks import CLASSES, MANY_LINKS, class_of, random_lines, with_marks
 from waits import Long
@@ -68,9 +68,11 @@ SHRINK_SECONDS = 120
 # ---- one script
 
 
-# An act of a script that may have lost some, with its number in the whole; and a difference, with its place there.
-Numbered = tuple[int, bytes]
-Placed = tuple[tuple[int, bool, int], Difference]
+# The number of an act in the whole script, and 0, or that of a look after it; an act of a script that may have lost
+# some, with its number; and a difference, with its place there.
+Number = tuple[int, int]
+Numbered = tuple[Number, bytes]
+Placed = tuple[tuple[Number, bool, int], Difference]
 
 
 class Checked:
@@ -210,42 +212,66 @@ def placed(lines: list[Numbered], system: list[Line], difference: Difference) ->
     """A difference with its place in the whole script: what is told back comes after the act before it."""
     of_script = places_of_script(system)
     before = bisect.bisect_right(of_script, difference.place)
-    number = lines[before - 1][0] if before else -1
+    number = lines[before - 1][0] if before else (-1, 0)
     return (number, difference.place not in of_script, difference.place), difference
 
 
+def with_numbers(acts: Iterable[tuple[int, bytes]], limits: Limits) -> list[Numbered]:
+    """A script of acts with these numbers, with the acts that look, for a run of these limits."""
+    own = list(acts)
+    numbers = iter([at for at, _ in own])
+    number, looks = -1, 0
+    found: list[Numbered] = []
+    for line, is_look in with_marks([line for _, line in own], limits):
+        number, looks = (number, looks + 1) if is_look else (next(numbers), 0)
+        found.append(((number, looks), line))
+    return found
+
+
+def without_looks(lines: Iterable[Numbered]) -> list[tuple[int, bytes]]:
+    """The acts of a script that are its own, with their numbers."""
+    return [(number, line) for (number, look), line in lines if not look]
+
+
 def checked(asked: Asked, lines: list[bytes]) -> Checked:
-    """Compares a script, and again without the acts after which system and fdref are apart."""
+    """Compares a script, and again without the acts after which system and fdref are apart; or with the room of the
+    system's pipes, where that is all that they are apart by."""
     result = Checked()
     apart: list[Placed] = []
-    marked = with_marks(lines, asked.limits)
-    numbered = list(enumerate(line for line, _ in marked))
+    numbered = with_numbers(enumerate(lines), asked.limits)
     for _ in range(STRIKES_MOST):
         system, found = compared(asked, [line for _, line in numbered])
         result.last = None
         of_script = places_of_script(system)
-        looks = {place for place, (at, _) in zip(of_script, numbered, strict=True) if marked[at][1]}
+        looks = {place for place, ((_, look), _) in zip(of_script, numbered, strict=True) if look}
         for it in found:
             it.is_look = it.place in looks
         result.calls = sum(line.place not in ("-", "") and not is_told_back(line) for line in system)
         here = [placed(numbered, system, it) for it in found]
         result.differences = [it for _, it in sorted(apart + here, key=lambda it: it[0])]
         last = found[-1] if found else None
-        unexplained = last if last and not last.reason else None
-        if last and last.reason and last.reason.fits is is_more_links:
-            unexplained = unexplained_with_links(asked, [line for at, line in numbered if not marked[at][1]])
-        if unexplained:
-            result.unexplained = unexplained
+        result.unexplained = unexplained_of(asked, numbered, last)
+        if not last or result.unexplained or last.is_settled():
             return result
-        if not last or last.is_settled():
-            return result
+        apart = [*apart, here[-1]]
+        roomy = asked.with_room() if last.reason and last.reason.fits is is_room else None
+        if roomy:
+            asked, numbered = roomy, with_numbers(without_looks(numbered), roomy.limits)
+            continue
         result.last = act_of(last.lines[act_place(last)])
         shorter = struck(numbered, system, last)
         if shorter == numbered:
             return result
         result.struck.append(result.last)
-        apart, numbered = [*apart, here[-1]], shorter
+        numbered = shorter
     return result
+
+
+def unexplained_of(asked: Asked, lines: list[Numbered], last: Difference | None) -> Difference | None:
+    """The difference without a reason of a script whose last difference this is, if there is one."""
+    if last and last.reason and last.reason.fits is is_more_links:
+        return unexplained_with_links(asked, [line for _, line in without_looks(lines)])
+    return last if last and not last.reason else None
 
 
 def unexplained_with_links(asked: Asked, lines: list[bytes]) -> Difference | None:
@@ -303,7 +329,7 @@ def told(difference: Difference) -> str:
     parts += [f"system: {line.place} {line.act} = {difference.system}"]
     parts += [f"{'model' if difference.is_of_model else 'fdref'}:  {line.place} {line.act} = {difference.fdref}"]
     parts += [f"the model is fdref's, but for more links of a file than {LINK_MAX}"] if difference.is_of_model else []
-    parts += [told_reason(difference.reason), *told_waiting(difference)]
+    parts += [told_reason(difference.reason), *told_waiting(difference), *told_room(difference)]
     parts += ["the script does not ask for this: compare.py looks at what it has left"] if difference.is_look else []
     return "\n".join(map(clipped, parts))
 
@@ -316,6 +342,13 @@ def told_waiting(difference: Difference) -> list[str]:
     before = [line for line in difference.lines[: difference.place] if line.act.startswith(f"{who} ")]
     calls = [line.act.split(" ")[1] for line in before if line.outcome.startswith("parked ")]
     return [f"{who} is not woken; {ENDS_OF_WAITING[call]}" for call in calls[-1:]]
+
+
+def told_room(difference: Difference) -> list[str]:
+    """Of a write to a pipe that moves less than there is room for, how that is seen."""
+    more = 0 if difference.reason else room_left(difference)
+    put = f"later writes put in {several(more, 'byte')} before the next read"
+    return [f"it moves less than there is room for: {put}"] if more else []
 
 
 def short(asked: Asked, lines: list[bytes]) -> list[bytes]:

@@ -3,13 +3,14 @@
 Which of the calls that came back together was served first is not seen on a system, so their other orders are tried.
 """
 
+import copy
 import itertools
 from pathlib import Path
 
 from support import plain_model
 from support.commands import capacity_words
 from support.counting import Failure
-from support.plain_model import DEFAULTS, PIPE_BUF, TRANSFER_MAX, Limits
+from support.plain_model import DEFAULTS, PIPE_BUF, PIPE_CAPACITY_LEAST, PIPE_CAPACITY_MOST, TRANSFER_MAX, Limits
 from support.running import CannotRun, run
 from support.runs import ALL_RECORDS, Line, line_of
 
@@ -81,11 +82,23 @@ class Asked:
         self.driver = driver
         self.limits = limits
         self.is_text = is_text
-        room = self.room()
-        self.has_same_room = room == limits.capacity
-        self.counts_bytes = self.room(3_000, 3_000) == room
-        self.room_seen = room if self.counts_bytes else max(room // 2 - PAGE, 0)
+        self.all_room = self.room()
+        self.has_same_room = self.all_room == limits.capacity
+        self.counts_bytes = self.room(3_000, 3_000) == self.all_room
+        self.room_seen = self.all_room if self.counts_bytes else max(self.all_room // 2 - PAGE, 0)
         self.pipe_buf = self.most_at_once() if self.has_same_room and self.counts_bytes else PIPE_BUF
+
+    def with_room(self) -> "Asked | None":
+        """The same, where pipes of fdref hold as many bytes as those of the system; or None where they do, or cannot, or
+        where the system does not count bytes."""
+        can_have = PIPE_CAPACITY_LEAST <= self.all_room <= PIPE_CAPACITY_MOST
+        if self.has_same_room or not self.counts_bytes or not can_have:
+            return None
+        other = copy.copy(self)
+        other.limits = self.limits._replace(capacity=self.all_room)
+        other.has_same_room = True
+        other.pipe_buf = other.most_at_once()
+        return other
 
     def run(self, words: list[str], script: bytes, who: str) -> bytes:
         """What one of the two prints on a script."""

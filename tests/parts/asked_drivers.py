@@ -200,6 +200,8 @@ p0 write 1 63*600
 p0 read 0 508
 p0 read 0 9
 """
+# A small write that waits at a pipe with more room than fdref's.
+WAITS_AT_ROOM = f"{FORKED}p0 write 1 61*16300\np0 write 1 62*200\np1 read 0 65536\n"
 LATE = "join\njoin\np0 mkfifo f\np1 open f r\np0 open f w,nonblock\np0 open f r,nonblock\np0 open f w,nonblock\n"
 MANY_OPEN = f"{FILED}" + "".join(f"p0 dup2 0 {fd}\n" for fd in range(1, 20))
 FEW = f"{MANY_OPEN}p0 open a r\np0 dup 0\np0 pipe\np0 dup2 0 25\np0 close 25\np0 close 3\np0 open a r\n"
@@ -227,6 +229,7 @@ ALL_COMPARED = [
     ("opens-after-the-reader", LATE, [BY_READER]),
     ("has-20-descriptors", FEW, [BY_OPEN_MAX]),
     ("has-smaller-pipes", LITTLE_ROOM, [BY_ROOM]),
+    ("has-larger-pipes", WAITS_AT_ROOM, [BY_ROOM]),
 ]
 # Wrong ones: the same call leaves something else than the reason says.
 LEFT = [
@@ -297,6 +300,15 @@ def left_is_told(program: str, folder: str, way: str, script: str, line: str, wa
     same(is_look, LOOKS in lines)
 
 
+def tear_is_told(program: str, folder: str) -> None:
+    """A part of a small write is found in a pipe that has other room than fdref's by default."""
+    done = compared(program, folder, "tears-small-writes", WAITS_AT_ROOM)
+    lines = done.stdout.decode().splitlines()
+    place = next((place for place, text in enumerate(lines) if text.startswith("system: ")), 0)
+    require(done.status == 1 and lines[place].startswith("system: 6 p1 read 0 65536 = x6161"), done.said())
+    same(["fdref:  6 p1 read 0 65536 = 61*16300", "reason: none"], lines[place + 1 : place + 3])
+
+
 # ---- pipes that take less than they have room for
 
 TAKE_LESS = {
@@ -327,6 +339,37 @@ def beside_is_told(program: str, folder: str, script: str, line: str, wanted: st
     place = next((place for place, text in enumerate(lines) if text.startswith("system: ")), 0)
     require(done.status == 1 and lines[place].endswith(f" {line}"), done.said())
     require(lines[place + 1].endswith(f" = {wanted}") and lines[place + 2] == "reason: none", f"{lines}")
+
+
+# Systems that move less than there is room for, as a later write shows.
+ONE_BYTE = "join\np0 pipe\np0 setfl 1 -,nonblock\np0 write 1 61*{}\n" + "p0 write 1 62*600\n" * 3
+REFUSED = "join\np0 pipe\np0 setfl 1 -,nonblock\np0 write 1 61*40000\np0 write 1 62*5000\n{}p0 write 1 63*5000\n"
+PAGED = ["--pipe-capacity", "65536"]
+LESS = [
+    ("writes-one-byte", ONE_BYTE.format(100), [], "p0 write 1 62*600 = 1", ""),
+    ("writes-one-byte", ONE_BYTE.format(512), [], "p0 write 1 62*600 = 1", "2 bytes"),
+    ("has-pages-once", REFUSED.format(""), PAGED, "p0 write 1 62*5000 = error EAGAIN", "5000 bytes"),
+]
+NOT_LESS = ("has-pages", REFUSED.format("p0 read 0 1\n"), PAGED)
+
+
+def less_is_seen(
+    program: str, folder: str, way: str, script: str, words: Sequence[str], line: str, more: str
+) -> None:
+    """A write that moves less than there is room for has no reason, and it is told how that is seen."""
+    done = compared(program, folder, way, script, words)
+    lines = done.stdout.decode().splitlines()
+    place = next((place for place, text in enumerate(lines) if text.startswith("system: ")), 0)
+    require(done.status == 1 and lines[place].endswith(f" {line}"), done.said())
+    same("reason: none", lines[place + 2])
+    told = f"it moves less than there is room for: later writes put in {more} before the next read"
+    same(bool(more), told in lines)
+
+
+def pages_are_a_reason(program: str, folder: str, way: str, script: str, words: Sequence[str]) -> None:
+    """Where a read comes between, the pages may be why."""
+    done = compared(program, folder, way, script, words)
+    require(done.status == 0 and b"room of a pipe that is counted in pages" in done.stdout, done.said())
 
 
 # ---- a larger PIPE_BUF
@@ -468,12 +511,16 @@ def cases(program: str, folder: str) -> Iterator[Case]:
         yield f"{way}, {script!r}", partial(all_is_compared, program, folder, way, script, reasons)
     for left in LEFT:
         yield f"{left[0]}, {left[1]!r}", partial(left_is_told, program, folder, *left)
+    yield "tears-small-writes", partial(tear_is_told, program, folder)
     for way, script in MORE_LINKS:
         yield f"{way}, {script!r}", partial(links_are_compared, program, folder, way, script)
     for links in WRONG_LINKS:
         yield f"{links[0]}, {links[1]!r}", partial(links_are_told, program, folder, *links)
     for way, script in TAKE_LESS.items():
         yield way, partial(less_is_told, program, folder, way, script)
+    for less in LESS:
+        yield f"{less[0]} {less[1]!r}", partial(less_is_seen, program, folder, *less)
+    yield "has-pages, and a read", partial(pages_are_a_reason, program, folder, *NOT_LESS)
     for beside in BESIDE:
         yield f"waits-beside-room {beside[0]!r}", partial(beside_is_told, program, folder, *beside)
     for way in ("larger-pipe-buf", "larger-pipe-buf-unseen"):

@@ -81,6 +81,8 @@ TAKE_LESS: dict[str, Callable[[str], str]] = {
     "takes-half": lambda text: text.replace(" 61*1000 = 1000", " 61*1000 = 512"),
     "waits-at-an-empty-pipe": lambda text: text.replace(" 61*600 = 600", " 61*600 = parked 0"),
 }
+# What the driver does not see of a small write that has gone in by a part.
+UNSEEN: dict[str, Callable[[str], str]] = {"tears-small-writes": lambda text: text.replace("parked 84", "parked 0")}
 
 
 # The pipes of systems that have other ones than the profile.
@@ -89,6 +91,9 @@ ROOMY = {
     "waits-beside-room": plain_model.Limits(capacity=16_384),
     "has-smaller-pipes": plain_model.Limits(capacity=512),
     "spoils-parts": plain_model.Limits(capacity=512),
+    "has-pages": plain_model.Limits(capacity=65_536),
+    "tears-small-writes": plain_model.Limits(capacity=16_384),
+    "has-pages-once": plain_model.Limits(capacity=65_536),
 }
 # Systems that are right, with pipes of 4,096 bytes and a larger PIPE_BUF: from how many bytes on a write that waits is
 # told as one of which it is not seen how much went in.
@@ -325,6 +330,58 @@ def waits_beside(world: plain_model.World, process: plain_model.Process, fd: int
     return WRITE(world, process, fd, data)
 
 
+def one_byte(
+    world: plain_model.World, process: plain_model.Process, at: plain_model.Description, data: bytes
+) -> plain_model.Reply:
+    """A write of more than PIPE_BUF bytes under nonblock that moves one byte, and PIPE_BUF into an empty pipe."""
+    assert at.pipe
+    is_large = at.nonblock and len(data) > plain_model.PIPE_BUF and at.pipe.room()
+    most = 1 if at.pipe.data else plain_model.PIPE_BUF
+    return WRITE_END(world, process, at, data[:most] if is_large else data)
+
+
+def torn_write(
+    world: plain_model.World, process: plain_model.Process, at: plain_model.Description, data: bytes
+) -> plain_model.Reply:
+    """A write of at most PIPE_BUF bytes that goes in by parts."""
+    assert at.pipe
+    if len(data) <= at.pipe.room() or len(data) > plain_model.PIPE_BUF or at.nonblock:
+        return WRITE_END(world, process, at, data)
+    call = WaitingWrite(at.pipe, data)
+    call.put(world)
+    process.waits = call
+    return 0
+
+
+# The pipes of which a write was refused, and how many bytes of the pages of each stay empty.
+REFUSED: set[plain_model.Pipe] = set()
+EMPTY: dict[plain_model.Pipe, int] = {}
+
+
+def paged_write(is_refused_once: bool) -> Callable[..., plain_model.Reply]:
+    """A write to a pipe with pages, of which 3,000 bytes fill one. One of 5,000 is refused after 40,000, and again, or
+    only once, so that pages are no reason."""
+
+    def write(
+        world: plain_model.World, process: plain_model.Process, at: plain_model.Description, data: bytes
+    ) -> plain_model.Reply:
+        assert at.pipe
+        is_refused = len(data) == 5_000 and len(at.pipe.data) == 40_000
+        is_refused = is_refused and not (is_refused_once and at.pipe in REFUSED)
+        if is_refused:
+            REFUSED.add(at.pipe)
+            raise plain_model.Errno("EAGAIN")
+        EMPTY[at.pipe] = EMPTY.get(at.pipe, 0) + 1_096 * (len(data) == 3_000)
+        return WRITE_END(world, process, at, data)
+
+    return write
+
+
+def paged_room(pipe: plain_model.Pipe) -> int:
+    """How many bytes more go into a pipe with pages."""
+    return max(pipe.capacity - len(pipe.data) - EMPTY.get(pipe, 0), 0)
+
+
 # Systems that move more bytes in a call than the profile, one of them by the standard.
 LARGER: dict[str, list[tuple[type, str, Callable[..., object]]]] = {
     "takes-many-bytes": [],
@@ -362,6 +419,16 @@ OTHERWISE: dict[str, list[tuple[type, str, Callable[..., object]]]] = {
     "has-larger-pipes": [],
     "has-smaller-pipes": [],
     "spoils-parts": [(plain_model.World, "write_end", spoiled_part)],
+    "tears-small-writes": [(plain_model.World, "write_end", torn_write)],
+    "writes-one-byte": [(plain_model.World, "write_end", one_byte)],
+    "has-pages": [
+        (plain_model.Pipe, "room", paged_room),
+        (plain_model.World, "write_end", paged_write(False)),
+    ],
+    "has-pages-once": [
+        (plain_model.Pipe, "room", paged_room),
+        (plain_model.World, "write_end", paged_write(True)),
+    ],
     "waits-beside-room": [
         (plain_model.World, "write", waits_beside),
         (WaitingWrite, "is_ready", lambda call, world: not world.has_end(call.pipe, "r")),
@@ -374,7 +441,7 @@ OTHERWISE: dict[str, list[tuple[type, str, Callable[..., object]]]] = {
 def printed(way: str, script: bytes, limits: plain_model.Limits = plain_model.DEFAULTS) -> bytes:
     """What a driver prints for a script that is wrong in a way, or not."""
     lines = settled_driver.lines_of(LEFT_OUT.get(way, bytes)(script), limits)
-    return {**PRINTED, **TAKE_LESS}.get(way, str)("".join(f"{line}\n" for line in lines)).encode()
+    return {**PRINTED, **TAKE_LESS, **UNSEEN}.get(way, str)("".join(f"{line}\n" for line in lines)).encode()
 
 
 def main(words: list[str]) -> int:
