@@ -202,6 +202,11 @@ def wants_room(found: Iterable[Apart], limits: Limits) -> bool:
     return may_be_larger and any(is_of_room(it.reason) for it in found)
 
 
+def is_out_of_room(history: Sequence[Noted], limits: Limits, why: Why = reason_of) -> bool:
+    """Whether, in this order, pipes have too little room at first, and there may be larger ones."""
+    return any(wants_room([it], limits) for it in differences(history, limits, why))
+
+
 def possible(history: Sequence[Noted], limits: Limits, why: Why = reason_of) -> Apart | None:
     """The first call, in this order, that the model answers otherwise for a reason, if none without one precedes it."""
     bare: list[Noted] = []
@@ -209,7 +214,8 @@ def possible(history: Sequence[Noted], limits: Limits, why: Why = reason_of) -> 
         if any(noted.precedes(it.noted) for noted in bare):
             return None
         if it.reason:
-            return (possible(history, ROOMY, why) if wants_room([it], limits) else None) or it
+            # room is none that does not explain the rest
+            return possible(history, ROOMY, why) if wants_room([it], limits) else it
         bare.append(it.noted)
     return None
 

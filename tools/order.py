@@ -151,7 +151,7 @@ class Orders:
         """Why no order explains a history."""
         ordered = apart.came_back(history)
         if not apart.is_one_by_one(history):
-            return self.with_perhaps(ordered, self.explained(history, self.args.limits))
+            return self.at_once(history, ordered)
         found = apart.parted_with_room(ordered, self.args.limits, reason_or_limit)
         if not found:
             return self.explained(history, self.args.limits)
@@ -163,9 +163,18 @@ class Orders:
         """Fails where the program does not answer the calls up to one as the model does."""
         apart.confirm(self.program, ordered[: last.place + 1], last.limits)
 
-    def with_perhaps(self, ordered: Sequence[Noted], result: Result) -> Result:
-        """What is told of calls that overlap, with a reason that may be the one."""
+    def at_once(self, history: Sequence[Noted], ordered: Sequence[Noted]) -> Result:
+        """Why no order explains calls that overlap: with larger pipes, where the others have too little room and that is
+        not all."""
         found = apart.possible(ordered, self.args.limits, reason_or_limit)
+        if apart.is_out_of_room(ordered, self.args.limits, reason_or_limit) and not found:
+            result = self.explained(history, ROOMY)
+            if isinstance(result, Unexplained):
+                return result._replace(page=f"{result.page}, {WHERE_ROOMY}")
+        return self.with_perhaps(ordered, self.explained(history, self.args.limits), found)
+
+    def with_perhaps(self, ordered: Sequence[Noted], result: Result, found: apart.Apart | None) -> Result:
+        """What is told of calls that overlap, with a reason that may be the one."""
         if not found or not found.reason or not isinstance(result, Unexplained):
             return result
         self.confirm(ordered, found)

@@ -48,7 +48,7 @@ BAD_LINES = """no order explains it, nor this part of it:
 which this call makes impossible, with those that overlap it:
   80 99 p0 read 0 4 = x62
   90 95 p1 write 1 x61 = ?
-page of write: at most PIPE_BUF bytes are not interleaved; page of read
+page of read: a pipe or FIFO
 """
 # One with flags that are set and a name that is replaced.
 RENAMED = """10 20 p0 join = 0
@@ -546,12 +546,19 @@ NOT_IN_PARTS = [
 ]
 
 
+# Small writes that are torn: for want of room in fdref's pipes, too, which is not what is wrong.
+TORN_SMALL = f"{THREE}12 13 p0 write 1 63*100 = 100\n20 40 p0 write 1 61*512 = 512\n20 40 p1 write 1 62*512 = 512\n"
+TORN_SMALL += f"50 51 p2 read 0 400 = x{'63' * 100}{'61' * 300}\n52 53 p2 read 0 512 = 62*512\n"
+NOT_BY_ROOM = f"page of write: at most PIPE_BUF bytes are not interleaved; page of read, {WHERE_ROOMY}"
+
+
 def part_cases(program: str) -> Iterator[Case]:
     """What is told of writes of more than PIPE_BUF bytes that go in by parts."""
     for text, end in IN_PARTS:
         yield f"in parts: {text}", partial(ends_with, program, text, 0, end)
     for text in NOT_IN_PARTS:
         yield f"in no parts: {text}", partial(fails, program, text, 1, "no order explains it")
+    yield "torn, and out of room", partial(ends_with, program, TORN_SMALL, 1, NOT_BY_ROOM)
     counted = "histories 2 explained 1 unexplained 0 given up 0 writes in parts 1"
     yield "in parts, counted", partial(ends_with, program, f"{IN_PARTS[1][0]}\n{GOOD}", 0, counted)
 

@@ -223,7 +223,7 @@ IMPOSSIBLE = [
         "two appends against time",
         TWO_APPENDING,
         "1 3 p0 write 0 x61 = 1; 4 8 p1 write 0 x62 = 1; 10 11 p1 pread 0 0 9 = x6261",
-        ("p1 pread 0 0 9", ATOMIC + "pread"),
+        ("p1 pread 0 0 9", "page of pread"),
     ),
     Told(
         "an append at a stale end",
@@ -265,7 +265,7 @@ IMPOSSIBLE = [
         "what was written is not there",
         TWO,
         "1 3 p0 write 0 x61 = 1; 4 5 p1 pread 0 0 9 = x",
-        ("p1 pread 0 0 9", ATOMIC + "pread"),
+        ("p1 pread 0 0 9", "page of pread"),
     ),
     Told(
         "a wake-up that is lost",
@@ -305,6 +305,50 @@ IMPOSSIBLE = [
         ("p2 read 0 1024", SMALL),
     ),
     Told(
+        "small writes that interleave, of which one is longer than the other",
+        THREE_AT_A_PIPE,
+        "1 9 p0 write 1 61*512 = 512; 1 9 p1 write 1 x62 = 1; 10 11 p2 read 0 1024 = "
+        + plain_model.data_text(b"a" * 200 + b"b" + b"a" * 312),
+        ("p2 read 0 1024", SMALL),
+    ),
+    Told(
+        "a byte that nobody wrote",
+        THREE_AT_A_PIPE,
+        "1 9 p0 write 1 61*300 = 300; 1 9 p1 write 1 62*300 = 300; "
+        "10 11 p2 read 0 1024 = " + plain_model.data_text(b"a" * 300 + b"b" * 299 + b"c"),
+        ("p2 read 0 1024", "page of read: a pipe or FIFO"),
+    ),
+    Told(
+        "a count of a small write",
+        THREE_AT_A_PIPE,
+        "1 9 p0 write 1 61*300 = 299; 1 9 p1 write 1 62*300 = 300; 10 11 p2 read 0 1024 = ?",
+        ("p0 write 1 61*300", "page of write: a pipe or FIFO"),
+    ),
+    Told(
+        "EPIPE while a reader is there",
+        THREE_AT_A_PIPE,
+        "1 9 p0 write 1 x61 = error EPIPE; 2 8 p1 write 1 x62 = 1; 10 11 p2 read 0 9 = x62",
+        ("p0 write 1 x61", "page of write: a pipe or FIFO"),
+    ),
+    Told(
+        "flags that nobody has set",
+        TWO,
+        "1 9 p1 getfl 0 = 35; 2 8 p0 fstat 0 = regular 0 1",
+        ("p1 getfl 0", "page of fcntl"),
+    ),
+    Told(
+        "a read of a file that waits",
+        TWO,
+        "1 - p0 read 0 9 = parked ?; 2 8 p1 fstat 0 = regular 0 1",
+        ("p0 read 0 9", "page of read: on a regular file no call waits"),
+    ),
+    Told(
+        "an open of a file that waits",
+        TWO,
+        "1 - p0 open a r = parked ?; 2 8 p1 fstat 0 = regular 0 1",
+        ("p0 open a r", "page of open: on a regular file no call waits"),
+    ),
+    Told(
         "a FIFO that opens by itself",
         FIFO,
         "1 3 p0 open f r = 0; 4 8 p1 open f w = 0",
@@ -314,13 +358,13 @@ IMPOSSIBLE = [
         "a write after the last reader",
         PIPE,
         "0 1 p0 close 0 = ok; 0 1 p1 open a rw,creat = 2; 3 4 p1 dup2 2 0 = 0; 5 6 p0 write 1 x61 = 1",
-        ("p0 write 1 x61", "page of write: at most PIPE_BUF bytes are not interleaved; page of write"),
+        ("p0 write 1 x61", "page of write: a pipe or FIFO"),
     ),
     Told(
         "an open after the unlink",
         TWO,
         "1 3 p0 unlink a = ok; 4 8 p1 open a rw = 1",
-        ("p1 open a rw", ATOMIC + "open"),
+        ("p1 open a rw", "page of open"),
     ),
     Told(
         "both opens make the file",
@@ -344,19 +388,19 @@ IMPOSSIBLE = [
         "a name that is missing",
         TWO_NAMES,
         "1 3 p0 rename b a = ok; 4 8 p1 open a r = error ENOENT",
-        ("p1 open a r", ATOMIC + "open"),
+        ("p1 open a r", "page of open"),
     ),
     Told(
         "an old name after the rename",
         TWO_NAMES,
         "1 3 p0 rename b a = ok; 4 8 p1 open b r = 2",
-        ("p1 open b r", ATOMIC + "open"),
+        ("p1 open b r", "page of open"),
     ),
     Told(
         "an old file after the rename",
         TWO_NAMES,
         "1 3 p0 rename b a = ok; 4 5 p1 open a r = 2; 6 7 p1 fstat 2 = regular 0 0",
-        ("p1 fstat 2", ATOMIC + "fstat"),
+        ("p1 fstat 2", "page of fstat"),
     ),
     Told(
         "both renames find the name",
@@ -368,7 +412,7 @@ IMPOSSIBLE = [
         "flags of one descriptor alone",
         TWO,
         "1 3 p0 setfl 0 -,append = ok; 4 5 p1 getfl 0 = 3",
-        ("p1 getfl 0", ATOMIC + "fcntl"),
+        ("p1 getfl 0", "page of fcntl"),
     ),
     Told(
         "half of the flags",
@@ -386,7 +430,7 @@ IMPOSSIBLE = [
         "a write at the offset after setfl",
         SIX_BYTES,
         "1 3 p0 setfl 0 -,append = ok; 4 5 p1 write 0 x41 = 1; 6 7 p0 lseek 0 0 cur = 1",
-        ("p0 lseek 0 0 cur", ATOMIC + "lseek"),
+        ("p0 lseek 0 0 cur", "page of lseek"),
     ),
     Told(
         "a read that waits after setfl",

@@ -5,15 +5,16 @@ comes first, and the plain model, to which the calls come one after another, giv
 end no call that waits may be ready.
 """
 
+import itertools
 import time
 from collections.abc import Sequence
 from typing import NamedTuple
 
-from support.footprints import Footprints, Opened
+from support.footprints import Footprints
 from support.histories import WAITS, Noted
 from support.late_links import late_links
 from support.pieces import are_of_pipes, in_parts
-from support.plain_model import DEFAULTS, PIPE_BUF, PIPE_CAPACITY_MOST, Limits
+from support.plain_model import DEFAULTS, PIPE_CAPACITY_MOST, Limits
 from support.searching import Search, Step, TooLong
 from support.shortening import Shortening
 
@@ -22,6 +23,8 @@ SECONDS = 60
 SHRINK_SECONDS = 20
 # A search for a shorter part may take so many times as long as that of the whole, or so long.
 EACH_TIMES, EACH_LEAST = 4, 0.5
+# How long it is looked for parts of small writes.
+PARTS_SECONDS = 5.0
 # A run in which a pipe holds as many bytes as it does on many a system: more than where nothing else is asked for.
 ROOMY = Limits(capacity=PIPE_CAPACITY_MOST)
 # How many of the calls that overlap the one that is blamed are told.
@@ -87,7 +90,8 @@ def explain(
     each = max(EACH_LEAST, EACH_TIMES * (time.monotonic() - began))
     shrunk = Shortening(limits, states_most, shrink_seconds, each).shortest(ordered)
     blamed = blamed_in(shrunk)
-    return Unexplained(shrunk, blamed, page_of(shrunk, blamed[0]))
+    is_torn = shrink_seconds > 0 and are_interleaved(ordered, blamed[0], limits, states_most)
+    return Unexplained(shrunk, blamed, page_of(shrunk, blamed[0], is_torn))
 
 
 def by_room(history: Sequence[Noted], states_most: int = STATES_MOST, seconds: float = SECONDS) -> ByRoom | None:
@@ -118,6 +122,14 @@ def by_late_links(history: Sequence[Noted], states_most: int = STATES_MOST, seco
         return False
     with late_links():
         return isinstance(explain(history, states_most, seconds, 0), Explained)
+
+
+def are_interleaved(history: Sequence[Noted], blamed: Noted, limits: Limits, states_most: int) -> bool:
+    """Whether an order explains a history up to a call where small writes to a pipe go in by parts, too."""
+    begun = [noted for noted in history if blamed.end is not None and noted.start <= blamed.end]
+    parted = in_parts(begun, 1)
+    result = explain(parted, states_most, PARTS_SECONDS, 0, limits) if parted else None
+    return isinstance(result, Explained) and are_of_pipes(begun, result.steps, limits)
 
 
 # ---- who is to blame
@@ -157,28 +169,43 @@ ATOMIC = """
 # Calls whose page has another name.
 PAGES = {"getfl": "page of fcntl", "setfl": "page of fcntl"}
 REPLACED = "page of rename: a name that is replaced is never missing"
+WAITS_AT_FILE = "on a regular file no call waits"
 NUMBERED = "docs/PROFILE.md: processes are numbered 0, 1, 2 .. in the order of joins and forks (own)"
 
 
-def page_of(history: Sequence[Noted], blamed: Noted) -> str:
-    """The page of the standard that a call departs from, if no order explains it. Calls of one process alone are atomic
-    to no others."""
+def page_of(history: Sequence[Noted], blamed: Noted, is_torn: bool = False) -> str:
+    """The page of the standard that a call departs from, if no order explains it. Calls are atomic to others where some
+    are made at once. That small writes are torn is told where it explains all."""
     footprints = Footprints(history)
     at = footprints.touches[list(history).index(blamed)].at
     word = blamed.act.word
+    is_of_fifo = word == "open" and footprints.names.first(blamed.act.fields[0]) in footprints.names.fifos
     if blamed.outcome == WAITS:
-        return ENDS_OF_WAITING.get(word, page_name(word))
+        is_of_file = (word == "open" and not is_of_fifo) or (at is not None and not at.may_be_pipe)
+        return f"{page_name(word)}: {WAITS_AT_FILE}" if is_of_file else ENDS_OF_WAITING.get(word, page_name(word))
     if word in ("join", "fork") and blamed.outcome.isdigit():
         return NUMBERED
     if is_missing(history, blamed):
         return REPLACED
-    if word == "open" and footprints.names.first(blamed.act.fields[0]) in footprints.names.fifos:
+    if is_of_fifo:
         return "page of open: a FIFO"
     if at and at.may_be_pipe:
-        return page_of_pipe(history, footprints, blamed, at)
-    if word in ATOMIC and len({noted.process for noted in history}) > 1:
+        torn = f"page of write: at most PIPE_BUF bytes are not interleaved; {page_name(word)}"
+        return torn if is_torn else f"{page_name(word)}: a pipe or FIFO"
+    if word in ATOMIC and are_at_once(history, footprints):
         return f"XSH 2.9.7: calls on regular files are atomic to each other; {page_name(word)}"
     return page_name(word)
+
+
+def are_at_once(history: Sequence[Noted], footprints: Footprints) -> bool:
+    """Whether two calls of a history that disturb each other are made at once."""
+    both = sorted(zip(history, footprints.touches, strict=True), key=lambda it: it[0].start)
+    calls = [(noted, touch) for noted, touch in both if noted.act.word in ATOMIC]
+    for place, (one, touch) in enumerate(calls):
+        for other, touched in itertools.takewhile(lambda it, one=one: not one.precedes(it[0]), itertools.islice(calls, place + 1, None)):
+            if one.process != other.process and touch.disturbs(touched):
+                return True
+    return False
 
 
 def page_name(word: str) -> str:
@@ -192,15 +219,3 @@ def is_missing(history: Sequence[Noted], blamed: Noted) -> bool:
         return False
     renames = [noted for noted in history if noted.act.word == "rename" and noted.act.fields[1] == blamed.act.fields[0]]
     return any(not it.precedes(blamed) and not blamed.precedes(it) for it in renames if it is not blamed)
-
-
-def page_of_pipe(history: Sequence[Noted], footprints: Footprints, blamed: Noted, at: Opened) -> str:
-    """The page that a call on a pipe departs from: where all writes are small that is also theirs."""
-    sizes = [
-        len(noted.act.fields[1])
-        for noted, touch in zip(history, footprints.touches, strict=True)
-        if noted.act.word == "write" and touch.at and touch.at.file == at.file
-    ]
-    if blamed.act.word in ("read", "write") and sizes and max(sizes) <= PIPE_BUF:
-        return f"page of write: at most PIPE_BUF bytes are not interleaved; page of {blamed.act.word}"
-    return f"{page_name(blamed.act.word)}: a pipe or FIFO"

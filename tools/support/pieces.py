@@ -36,9 +36,9 @@ class Taken:
         self.count += count
         self.ends.add(self.count)
 
-    def parts(self) -> list[Noted]:
-        """The write, or its parts."""
-        if len(self.data) <= PIPE_BUF or self.noted.outcome != str(len(self.data)) or len(self.ends) > PARTS_MOST:
+    def parts(self, most_at_once: int) -> list[Noted]:
+        """The write, or its parts, if it has more bytes than go in at once."""
+        if len(self.data) <= most_at_once or self.noted.outcome != str(len(self.data)) or len(self.ends) > PARTS_MOST:
             return [self.noted]
         ends = sorted({*self.ends, len(self.data)})
         pieces = [self.data[begin:end] for begin, end in zip([0, *ends], ends, strict=False)]
@@ -59,8 +59,8 @@ def reads_of(history: Sequence[Noted]) -> Iterator[tuple[Noted, bytes]]:
             yield noted, data
 
 
-def in_parts(history: Sequence[Noted]) -> list[Noted] | None:
-    """A history with the parts of its writes, or None where none has parts."""
+def in_parts(history: Sequence[Noted], most_at_once: int = PIPE_BUF) -> list[Noted] | None:
+    """A history with the parts of its writes of more than so many bytes, or None where none has parts."""
     taken = {at: Taken(noted) for at, noted in enumerate(history) if noted.act.word == "write"}
     for noted, data in reads_of(history):
         while data:
@@ -71,7 +71,7 @@ def in_parts(history: Sequence[Noted]) -> list[Noted] | None:
                 break
             best.take(count)
             data = data[count:]
-    parted = [it for at, noted in enumerate(history) for it in (taken[at].parts() if at in taken else [noted])]
+    parted = [it for at, noted in enumerate(history) for it in (taken[at].parts(most_at_once) if at in taken else [noted])]
     return parted if len(parted) > len(history) else None
 
 
