@@ -6,30 +6,36 @@ of several: a reason that is found there may be the one, and need not.
 """
 
 import itertools
-from collections.abc import Callable, Iterable, Iterator, Sequence
+from collections.abc import Callable, Iterable, Iterator, Mapping, Sequence
+from types import MappingProxyType
 from typing import NamedTuple
 
 from support import plain_model
 from support.commands import ChosenLimits
 from support.histories import UNKNOWN, WAITS, Noted
 from support.ordering import ROOMY, Explained, explain
-from support.plain_model import Limits, Pipe, World
+from support.plain_model import Act, Limits, Pipe, World
 from support.replaying import Differs, is_waiting, replayed
 from support.runs import Line, Settled, line_of
 from support.searching import FOREVER, Step
 
-from compare_instead import Appending
+from compare_instead import Appending, ways
 from compare_reasons import APPENDED, Difference, Reason, follows_append, is_paged_room, is_room, reason_of
-from compare_runs import act_of
-
+from compare_runs import act_of, together
 
 # How a reason is looked for.
 Why = Callable[[Difference], Reason | None]
 
 
+# The acts that the model is given instead of some calls, by their places.
+Instead = Mapping[int, Sequence[Act]]
+NOTHING: Instead = MappingProxyType({})
+
+
 class Apart(NamedTuple):
     """A call that fdref answers otherwise: its place in the order, what fdref answers in a run of which limits, the
-    reason, if there is one, and whether what comes after it can be compared."""
+    reason, if there is one, whether what comes after it can be compared, and what was given instead of which calls up to
+    it, as what the system did."""
 
     place: int
     noted: Noted
@@ -37,6 +43,7 @@ class Apart(NamedTuple):
     limits: Limits
     reason: Reason | None
     is_settled: bool
+    instead: Instead
 
 
 # ---- orders
@@ -87,7 +94,9 @@ def in_order(history: Sequence[Noted], steps: Iterable[Step]) -> list[Noted]:
 class Beside:
     """The model beside calls that come one after another, and what each of them gives at last."""
 
-    def __init__(self, history: Sequence[Noted], limits: Limits, world: type[World] = World) -> None:
+    def __init__(
+        self, history: Sequence[Noted], limits: Limits, world: type[World] = World, instead: Instead = NOTHING
+    ) -> None:
         self.run = Settled(limits)
         self.run.world = world(limits)
         self.answers: list[str] = []
@@ -95,12 +104,28 @@ class Beside:
         self.held: dict[Pipe, int] = {}
         # the call in which each process waits, by its place
         self.waiting: dict[int, int] = {}
-        for noted in history:
+        for place, noted in enumerate(history):
             # no call makes one go on that came back before it
             overdue = [who for who, at in self.waiting.items() if history[at].precedes(noted)]
             for who in overdue:
                 del self.waiting[who]
-            self.take(noted)
+            if place in instead:
+                self.take_instead(noted, instead[place])
+            else:
+                self.take(noted)
+
+    def take_instead(self, noted: Noted, acts: Iterable[Act]) -> None:
+        """Lets acts take place instead of a call, which give what that gave."""
+        seen = len(self.run.lines)
+        for act in acts:
+            self.run.take(act)
+        lines = list(map(read_line, self.run.lines[seen:]))
+        if lines and is_waiting(lines[-1].outcome):
+            self.waiting[noted.process] = len(self.answers)
+        self.answers.append(together([it.outcome for it in lines if it.number() == noted.process], noted.outcome))
+        for line in lines:
+            if line.number() in self.waiting:
+                self.answers[self.waiting[line.number()]] = line.outcome
 
     def take(self, noted: Noted) -> None:
         """Lets a call take place, but for one of which nothing is known."""
@@ -144,33 +169,50 @@ def is_given(noted: Noted, answer: str) -> bool:
 
 
 def differences(history: Sequence[Noted], limits: Limits, why: Why = reason_of) -> Iterator[Apart]:
-    """The calls, in this order, that the model answers otherwise."""
+    """The calls, in this order, that the model answers otherwise. Where a reason says what such a call has to have done,
+    the model is given that instead, so that what comes after it is compared."""
     known: set[int] = set()
-    for place, answer in enumerate(Beside(history, limits).answers):
-        if not is_given(history[place], answer):
+    instead: dict[int, Sequence[Act]] = {}
+    answers = Beside(history, limits).answers
+    for place in range(len(history)):
+        if not is_given(history[place], answers[place]):
             known.add(place)
-            yield apart_at(history, place, answer, limits, known, why)
+            it, difference = apart_at(history, place, answers[place], limits, known, why, instead)
+            for at, acts in ways(difference) if it.reason is not APPENDED and not it.is_settled else ():
+                tried = Beside(history, limits, instead={**instead, at: acts})
+                if is_given(history[place], tried.answers[place]):
+                    instead[at] = acts
+                    answers, it = tried.answers, it._replace(is_settled=True)
+                    break
+            yield it._replace(instead=dict(instead))
 
 
 def apart_at(
-    history: Sequence[Noted], place: int, answer: str, limits: Limits, known: set[int], why: Why = reason_of
-) -> Apart:
+    history: Sequence[Noted],
+    place: int,
+    answer: str,
+    limits: Limits,
+    known: set[int],
+    why: Why = reason_of,
+    instead: Instead = NOTHING,
+) -> tuple[Apart, Difference]:
     """A call that the model answers otherwise, as are the known ones up to it."""
     lines = [Line(str(at), plain_model.act_text(noted.act), noted.outcome) for at, noted in enumerate(history)]
-    beside = Beside(history[:place], limits)
+    beside = Beside(history[:place], limits, instead=instead)
     difference = Difference(place, lines, lines[place], lines[place]._replace(outcome=answer), beside.run.world)
     difference.room_seen = beside.held.get(difference.at.pipe, 0) if difference.at and difference.at.pipe else 0
     difference.has_same_room = isinstance(limits, ChosenLimits)
     reason = why(difference)
     # what the fstat after such a pwrite tells has to follow from all of them
     if reason is None or (reason is APPENDED and follows_append(difference)):
-        reason = APPENDED if is_by_append(history[: place + 1], limits, known - {place}) else None
-    return Apart(place, history[place], answer, limits, reason, difference.is_settled())
+        reason = APPENDED if is_by_append(history[: place + 1], limits, known - {place}, instead) else None
+    difference.reason = reason
+    return Apart(place, history[place], answer, limits, reason, difference.is_settled(), NOTHING), difference
 
 
-def is_by_append(history: Sequence[Noted], limits: Limits, known: set[int]) -> bool:
+def is_by_append(history: Sequence[Noted], limits: Limits, known: set[int], instead: Instead) -> bool:
     """Whether the calls give what was noted, but for the known ones, where a pwrite under append writes at the end."""
-    answers = Beside(history, limits, Appending).answers
+    answers = Beside(history, limits, Appending, instead).answers
     return all(at in known or is_given(noted, answers[at]) for at, noted in enumerate(history))
 
 
@@ -237,14 +279,27 @@ def excused(
     return ordered, found if all(it.reason for it in found) else []
 
 
+def followed(history: Iterable[Noted], instead: Instead) -> list[Noted]:
+    """A history with the calls that are given instead of some, whose answers are not known."""
+    return [
+        it
+        for at, noted in enumerate(history)
+        for it in (
+            [noted._replace(act=act, outcome=UNKNOWN) for act in instead[at]] if at in instead else [noted]
+        )
+    ]
+
+
 def without_answers(history: Iterable[Noted], places: set[int]) -> list[Noted]:
     """A history in which the answers of some calls are not known."""
     return [noted._replace(outcome=UNKNOWN) if at in places else noted for at, noted in enumerate(history)]
 
 
-def confirm(program: str | Sequence[str], history: Sequence[Noted], limits: Limits) -> None:
+def confirm(
+    program: str | Sequence[str], history: Sequence[Noted], limits: Limits, instead: Instead = NOTHING
+) -> None:
     """Fails where the program does not answer these calls, in this order, as the model does."""
-    lines = Beside(history, limits).lines()
+    lines = Beside(history, limits, instead=instead).lines()
     acts = [plain_model.read_act(act_of(line).encode()) for line in lines]
     for line, given in zip(lines, replayed(program, acts, limits), strict=True):
         if line != given:

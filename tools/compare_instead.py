@@ -10,10 +10,14 @@ from collections.abc import Iterator
 from support import plain_model
 from support.plain_model import TRANSFER_MAX, Act, Description, Process, Reply, World
 
-from compare_limits import is_fewer_descriptors
+from compare_limits import is_fewer_descriptors, is_long_name, is_many_files, is_no_process, is_no_space
+from compare_limits import is_smaller_file
 from compare_reasons import READ_MOST, Difference, follows_append, is_append, is_count, is_lseek_past_files
 from compare_reasons import is_paged_room, is_pwrite_appended, is_reader_waiting, is_room, process_of
 from compare_runs import act_of
+
+# Limits by which a system refuses a call, which changes nothing then.
+REFUSING = (is_fewer_descriptors, is_smaller_file, is_no_space, is_many_files, is_no_process, is_long_name)
 
 # ---- the acts
 
@@ -65,8 +69,10 @@ def is_large(act: Act) -> bool:
 def ways(it: Difference) -> Iterator[tuple[int, list[Act]]]:
     """What fdref may be given instead of an act for the reason of a difference, with the place of that act."""
     fits = it.reason.fits if it.reason else None
-    if fits in (is_lseek_past_files, is_reader_waiting, is_fewer_descriptors):
+    if fits in (is_lseek_past_files, is_reader_waiting) or (fits in REFUSING and it.system.startswith("error ")):
         yield it.place, []
+    elif fits is is_smaller_file:
+        yield it.place, [part(it.act, 0, int(it.system))]
     elif fits is is_pwrite_appended and follows_append(it):
         before = plain_model.read_act(act_of(it.lines[it.place - 1]).encode())
         if it.size_before is not None:

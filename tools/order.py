@@ -21,7 +21,8 @@ then: `a write of more than 512 bytes in parts (own)`. And so it does which end 
 that is the writing one, dup2 and close are added, and the ends change places.
 
 So has a history in which no calls overlap, where each call that fdref answers otherwise has one of tools/compare.py
-that is its own choice. After the first that succeeds in one of the two alone, the rest is not compared; that is told.
+that is its own choice. A call that is refused has changed nothing, and of a short one the model is given what it moved;
+after another that succeeds in one of the two alone, the rest is not compared; that is told.
 A limit of the system that the standard leaves open is one, too: more descriptors than 32, or fewer than that and not
 fewer than 20, larger and smaller files, shorter names, ENOSPC, ENFILE, EAGAIN of fork. A write that is short for want
 of space is none, as it cannot be told from a wrong one; nor is a join that is refused.
@@ -161,7 +162,7 @@ class Orders:
 
     def confirm(self, ordered: Sequence[Noted], last: apart.Apart) -> None:
         """Fails where the program does not answer the calls up to one as the model does."""
-        apart.confirm(self.program, ordered[: last.place + 1], last.limits)
+        apart.confirm(self.program, ordered[: last.place + 1], last.limits, last.instead)
 
     def at_once(self, history: Sequence[Noted], ordered: Sequence[Noted]) -> Result:
         """Why no order explains calls that overlap: with larger pipes, where the others have too little room and that is
@@ -194,7 +195,8 @@ class Orders:
     def blamed(self, ordered: Sequence[Noted], found: Sequence[apart.Apart], first: apart.Apart) -> Result:
         """What is told of calls, one after another, of which this is the first that is no choice of fdref's own."""
         known = {it.place for it in found if it.place < first.place}
-        result = self.explained(apart.without_answers(ordered, known)[: first.place + 1], first.limits)
+        before = apart.without_answers(ordered, known)[: first.place + 1]
+        result = self.explained(apart.followed(before, first.instead), first.limits)
         if not isinstance(result, Unexplained):
             return self.explained(ordered, self.args.limits)
         why = told_reason(first.reason) if first.reason else result.page

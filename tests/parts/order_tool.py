@@ -210,6 +210,7 @@ LARGER = "more than 1,099,511,627,776 bytes in a file (own; page of write)"
 SMALLER = "fewer than 1,099,511,627,776 bytes in a file (own; XBD limits.h, FILESIZEBITS)"
 NO_SPACE = "no space in the file system (own; pages of open, mkfifo, link, rename and write)"
 MANY = "too many files open in the system (own; pages of open and pipe)"
+CHILD = "no room for a child (own; page of fork)"
 LONG = "names of at most 64 bytes that are too long (own; XBD limits.h, _POSIX_NAME_MAX)"
 LIMITS = [
     (FILED, "40 41 p0 dup2 0 40 = 40", "error EBADF", MORE),
@@ -230,7 +231,7 @@ LIMITS = [
     (FILED, "40 41 p0 rename a b = error ENOSPC", "ok", NO_SPACE),
     (FILED, "40 41 p0 write 0 x61 = error ENOSPC", "1", NO_SPACE),
     (FILED, "40 41 p0 open a r = error ENFILE", "1", MANY),
-    (FILED, "40 41 p0 fork = error EAGAIN", "1", "no room for a child (own; page of fork)"),
+    (FILED, "40 41 p0 fork = error EAGAIN", "1", CHILD),
     (FILED, "40 41 p0 unlink abcdefghijklmno = error ENAMETOOLONG", "error ENOENT", LONG),
 ]
 # The nearest answers that it does not.
@@ -251,6 +252,25 @@ NO_LIMITS = [
     (FILED, "40 41 p0 dup2 0 1 = error ENFILE", "1"),
     (FILED, "40 41 p0 mkfifo b = error EAGAIN", "ok"),
     (FILED, "40 41 p0 unlink abcdefghijklmn = error ENAMETOOLONG", "error ENOENT"),
+]
+# Calls that a limit refuses, after which all is compared: what comes before, the call, what fdref answers, the reason,
+# what comes after, and what fdref answers to the last of these where it is wrong instead.
+GOES_ON = [
+    (FILED, "40 41 p0 write 0 x61 = error ENOSPC", "1", NO_SPACE, "42 43 p0 pread 0 0 9 = x", "x61", "x"),
+    (FILED, "40 41 p0 open b rw,creat = error ENOSPC", "1", NO_SPACE, "42 43 p0 open a r = 1", "2", "1"),
+    (FILED, "40 41 p0 mkfifo b = error ENOSPC", "ok", NO_SPACE, "42 43 p0 unlink b = error ENOENT", "ok", "error ENOENT"),
+    (FILED, "40 41 p0 fork = error EAGAIN", "1", CHILD, "42 43 p0 fork = 1", "2", "1"),
+    (FILED, "40 41 p0 open a r = error ENFILE", "1", MANY, "42 43 p0 dup 0 = 1", "2", "1"),
+    (TWENTY, "40 41 p0 dup 0 = error EMFILE", "20", FEWER, "42 43 p0 getfl 0 = 3", "1", "3"),
+    (
+        FILED,
+        f"40 41 p0 pwrite 0 {2**32 - 2} x616161 = 2",
+        "3",
+        SMALLER,
+        f"42 43 p0 fstat 0 = regular {2**32} 1",
+        f"regular {2**32 - 1} 1",
+        f"regular {2**32} 1",
+    ),
 ]
 # Limits that the same history contradicts: what comes before, the call, what fdref answers, and what comes after.
 FAR_SIZE = f"regular {2**33} 1"
@@ -414,6 +434,11 @@ def reason_cases(program: str) -> Iterator[Case]:
     for before, call, answer, reason, after in CONSISTENT:
         end = f"fdref answers {answer}\nreason: {reason}"
         yield f"a limit: {call}; {after}", partial(has_told, program, f"{before}{call}\n{after}\n", end)
+    for before, call, answer, reason, after, wrong, right in GOES_ON:
+        text = f"{before}{call}\n{after}\n"
+        yield f"goes on: {call}; {after}", partial(prints, program, text, 0, chosen(call, answer, reason))
+        text = text.replace(f"{after}\n", f"{after.rpartition(' = ')[0]} = {wrong}\n")
+        yield f"goes on: {call}; {after}, not {wrong}", partial(is_bare, program, text, right)
     further = f"{JOINED}2 3 p0 read 7 0 = x\n4 5 p0 close 7 = error EINVAL\n"
     yield "after a call of no bytes", partial(is_bare, program, further, "error EBADF")
     for before, calls, end in OVERLAPPING:
