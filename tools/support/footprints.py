@@ -369,14 +369,16 @@ def rivals(history: Sequence[Noted], touches: Sequence[Touch]) -> list[int]:
     """For each call, as bits: the calls of other processes that may come before it or after it, where that matters."""
     found = [0] * len(history)
     is_any = is_large(history)
-    for place, noted in enumerate(history):
-        for other_place in range(place):
+    under_way: list[int] = []
+    for place in sorted(range(len(history)), key=lambda at: history[at].start):
+        noted = history[place]
+        under_way = [at for at in under_way if not history[at].precedes(noted)]
+        for other_place in under_way:
             other = history[other_place]
-            if noted.process == other.process or noted.precedes(other) or other.precedes(noted):
-                continue
-            if is_any or touches[place].disturbs(touches[other_place]):
+            if noted.process != other.process and (is_any or touches[place].disturbs(touches[other_place])):
                 found[place] |= rival(noted, other, other_place)
                 found[other_place] |= rival(other, noted, place)
+        under_way.append(place)
     return found
 
 

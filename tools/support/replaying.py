@@ -1,5 +1,6 @@
 """Holding the order of a history against the program: what it answers to the acts has to explain the history."""
 
+from collections import deque
 from collections.abc import Iterable, Sequence
 from typing import NamedTuple
 
@@ -76,15 +77,15 @@ def calls_of(lines: Iterable[Line]) -> dict[int, list[tuple[str, Went]]]:
 def explains(history: Sequence[Noted], lines: Sequence[Line]) -> None:
     """The lines of a run explain a history: it has the same calls with the same answers, each process keeps its order,
     and so does time. The calls that are not known to have come back may be missing."""
-    calls = calls_of(lines)
+    calls = {number: deque(own) for number, own in calls_of(lines).items()}
     went: list[tuple[Noted, Went]] = []
     for noted in history:
-        own = calls.get(noted.process, [])
+        own = calls.get(noted.process, deque())
         if not own and noted.end is None and noted.outcome == UNKNOWN:
             continue
         if not own or own[0][0] != plain_model.act_text(noted.act):
             raise Differs(f"the order has no place for {noted.text()}")
-        went.append((noted, own.pop(0)[1]))
+        went.append((noted, own.popleft()[1]))
         fits(*went[-1])
     if any(calls.values()):
         raise Differs("the order has calls that the history does not have")
@@ -102,10 +103,17 @@ def fits(noted: Noted, gone: Went) -> None:
 
 def keeps_time(went: Sequence[tuple[Noted, Went]]) -> None:
     """No call goes on in a run after one that began when it had come back."""
-    for noted, gone in went:
-        for other, other_gone in went:
-            if noted.precedes(other) and gone.last > other_gone.first:
-                raise Differs(f"the order turns time around: {noted.text()}, and {other.text()}")
+    ended = [(noted.end, gone.last, noted) for noted, gone in went if noted.end is not None]
+    came_back = sorted(ended, key=lambda it: it[:2])
+    at = 0
+    latest, last = None, -1
+    for other, other_gone in sorted(went, key=lambda it: it[0].start):
+        while at < len(came_back) and came_back[at][2].precedes(other):
+            if came_back[at][1] > last:
+                last, latest = came_back[at][1:]
+            at += 1
+        if latest and last > other_gone.first:
+            raise Differs(f"the order turns time around: {latest.text()}, and {other.text()}")
 
 
 # ---- both
