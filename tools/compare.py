@@ -5,7 +5,8 @@ usage: tools/compare.py [--text] SCRIPT-OR-FOLDER...
        tools/compare.py --random N --seed S [--first K] [--acts A] [--class small|full-pipes|all] [--summary FILE]
 
 Both take --pipe-capacity N: with as many bytes as a pipe of the system holds (65,536 on Linux) also writes that fill
-pipes are compared.
+pipes are compared. Where it counts bytes, and not pages, that is done without N too, as soon as they differ. --ask
+COMMAND asks another driver, and --seconds N ends it where it does not answer.
 
 Each script is run by tools/ask_kernel.c, with a real process for each of its processes. The acts of
 the run that happened are then given to `fdref replay`, and the two are compared line by line; a `?`
@@ -52,14 +53,16 @@ from support.texts import several
 
 from compare_instead import ways
 from compare_limits import FEWER
-from compare_lines import Asked, first_unfit, in_other_order, is_at_once, moved
+from compare_lines import SECONDS, Asked, first_unfit, in_other_order, is_at_once, moved
 from compare_reasons import OWN, REASONS, Difference, Reason, appended_to, follows_append, is_more_links, is_room
 from compare_reasons import process_of, reason_of, room_left, told_reason
-from compare_runs import Known, act_of, check_alike, ends_of_closing, is_told_back, places_of_script, together
+from compare_runs import Known, act_of, ends_of_closing, is_told_back, places_of_script, together
 from compare_walks import CLASSES, MANY_LINKS, class_of, random_lines, with_marks
 from waits import Long
 
 LINES_BEFORE = 12
+# How many characters of the command of a driver are told.
+NAME_MOST = 120
 ACTS_TOLD = 8
 STRIKES_MOST = 8
 SHRINK_SECONDS = 120
@@ -141,7 +144,7 @@ def compared(asked: Asked, lines: list[bytes], link_max: int = LINK_MAX) -> tupl
             system, fdref = reordered, asked.fdref(reordered, known)
             beside = Beside(system, asked.limits, known)
             continue
-        check_alike(system, fdref, place)
+        asked.check_alike(system, fdref, place)
         difference = difference_at(asked, beside, fdref, place)
         difference.is_exchanged = place in turned
         difference.earlier = {it.place: it.fdref for it in found}
@@ -312,9 +315,9 @@ def reason_in(asked: Asked, difference: Difference) -> Reason | None:
 # ---- telling
 
 
-def clipped(text: str) -> str:
+def clipped(text: str, most: int = 160) -> str:
     """A line for a reader: a long one is cut in the middle."""
-    return text if len(text) <= 160 else text[:100] + "..." + text[-40:]
+    return text if len(text) <= most else text[: most * 5 // 8] + "..." + text[-most // 4 :]
 
 
 def told(difference: Difference) -> str:
@@ -489,6 +492,8 @@ def parse(words: Sequence[str]) -> argparse.Namespace:
     ask = "reads a script and prints its run: ask_kernel with its options, on whatever system; "
     ask += "compiled for this run where it is not given"
     parser.add_argument("--ask", metavar="COMMAND", help=ask)
+    seconds = f"how long it, or fdref, may take for one script; {SECONDS:g} where no number is given"
+    parser.add_argument("--seconds", type=float, default=SECONDS, metavar="N", help=seconds)
     parser.add_argument("--keep", metavar="DIR", help="a folder for scripts that differ without a reason")
     add_summary(parser)
     args = parser.parse_args(words)
@@ -509,7 +514,8 @@ def parse(words: Sequence[str]) -> argparse.Namespace:
 
 def check_all(args: argparse.Namespace, totals: Totals, driver: str) -> None:
     """Compares all scripts that are asked for."""
-    asked = Asked(args.command, shlex.split(driver), args.limits, args.text)
+    name = clipped(args.ask, NAME_MOST) if args.ask else "ask_kernel"
+    asked = Asked(args.command, shlex.split(driver), args.limits, args.text, name, args.seconds)
     for name, lines in args.scripts:
         check_one(asked, totals, name, lines, False, args.keep)
     for number in range(args.first, args.first + args.random):

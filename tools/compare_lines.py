@@ -14,10 +14,13 @@ from support.plain_model import DEFAULTS, PIPE_BUF, PIPE_CAPACITY_LEAST, PIPE_CA
 from support.running import CannotRun, run
 from support.runs import ALL_RECORDS, Line, line_of
 
-from compare_runs import Known, bytes_of_write, ends_of_closing, is_told_back, places_of_script, run_of
+from compare_runs import Known, NoRun, bytes_of_write, check_alike, ends_of_closing, is_told_back, places_of_script
+from compare_runs import run_of
 from compare_turns import moves_of, with_moves, without_moves
+from waits import Long, waits_for
 
-SECONDS = 120
+# How long the driver or fdref may take for a script.
+SECONDS = 120.0
 # Systems give a pipe memory in pages of so many bytes.
 PAGE = 4_096
 ORDERS_MOST = 150
@@ -76,10 +79,18 @@ class Asked:
     """The driver and fdref, as they are called."""
 
     def __init__(
-        self, program: list[str], driver: list[str], limits: Limits = DEFAULTS, is_text: bool = False
+        self,
+        program: list[str],
+        driver: list[str],
+        limits: Limits = DEFAULTS,
+        is_text: bool = False,
+        driver_name: str = "ask_kernel",
+        seconds: float = SECONDS,
     ) -> None:
         self.program = program
         self.driver = driver
+        self.driver_name = driver_name
+        self.seconds = seconds
         self.limits = limits
         self.is_text = is_text
         self.all_room = self.room()
@@ -103,7 +114,8 @@ class Asked:
     def run(self, words: list[str], script: bytes, who: str) -> bytes:
         """What one of the two prints on a script."""
         try:
-            done = run(words, script, seconds=SECONDS)
+            with Long(waits_for(f"{who}, which is given a script", self.seconds), "compare.py"):
+                done = run(words, script, seconds=self.seconds)
         except (Failure, OSError) as fault:
             raise CannotRun(f"{who}: {fault}") from None
         if done.status != 0:
@@ -138,7 +150,11 @@ class Asked:
     def system(self, script: list[bytes]) -> list[Line]:
         """The run of a script as it happened."""
         text = b"".join(line + b"\n" for line in script)
-        lines = run_of(script, self.run(self.driver, text, "ask_kernel"))
+        printed = self.run(self.driver, text, self.driver_name)
+        try:
+            lines = run_of(script, printed)
+        except NoRun as fault:
+            raise fault.of(self.driver_name) from None
         if any(line.outcome == "?" for line in lines):
             # a resume that is told as `?` may be none, so the number of records is not known
             lines[-1] = lines[-1]._replace(outcome=lines[-1].outcome.replace(lines[-1].outcome.split(" ")[1], "?", 1))
@@ -159,11 +175,18 @@ class Asked:
         of_script = places_of_script(lines)
         return lines, {of_script[number] for number in added}
 
+    def check_alike(self, system: list[Line], fdref: list[Line], place: int) -> None:
+        """Fails where two runs of the same acts have another act at a place."""
+        try:
+            check_alike(system, fdref, place)
+        except NoRun as fault:
+            raise fault.of(self.driver_name) from None
+
     def fault(self, path: str) -> str:
         """The fault of a script, as fdref tells it: its line, its column and what could stand there."""
         try:
             words = [*self.program, "replay", *(["--text"] if self.is_text else [])]
-            done = run(words, Path(path).read_bytes(), seconds=SECONDS)
+            done = run(words, Path(path).read_bytes(), seconds=self.seconds)
         except (Failure, OSError):
             return "not a script"
         lines = done.stderr.decode("ascii", "replace").splitlines()

@@ -26,6 +26,18 @@ MAY_WAIT = ("open", "read", "write")
 SHOWN = 120
 
 
+class NoRun(CannotRun):
+    """What a driver prints that is not the run of its script: what is told of it after the driver's name."""
+
+    def __init__(self, text: str, driver: str = "ask_kernel") -> None:
+        super().__init__(f"{driver}{text}")
+        self.text = text
+
+    def of(self, driver: str) -> "NoRun":
+        """The same of a driver that has another name."""
+        return NoRun(self.text, driver)
+
+
 # ---- lines of a run
 
 
@@ -149,7 +161,7 @@ def lines_of(output: bytes) -> list[Line]:
         if not LINE.fullmatch(text) or not text.isascii():
             wrong(place, f"is no line of a run: {shown(text, SHOWN)}")
     if not TOTALS.fullmatch(last):
-        raise CannotRun(f"ask_kernel does not print {TOTALS_FORM} in the end; its last line is {shown(last, SHOWN)}")
+        raise NoRun(f" does not print {TOTALS_FORM} in the end; its last line is {shown(last, SHOWN)}")
     return [line_of(text.decode("ascii")) for text in (*records, last)]
 
 
@@ -160,7 +172,7 @@ def check_acts(script: Sequence[bytes], lines: Sequence[Line]) -> None:
         if place is None:
             left = len(script) - len(places) - 1
             more = f", nor {several(left, 'act')} after it" if left else ""
-            raise CannotRun(f"ask_kernel did not run {told(line.decode())}{more}")
+            raise NoRun(f" did not run {told(line.decode())}{more}")
         if line is None:
             wrong(place, f"is no act of the script: {told(act_of(lines[place]))}")
         check_act(place, act_of(lines[place]), line)
@@ -178,7 +190,7 @@ def check_act(place: int, given: str, line: bytes) -> None:
         wrong(place, f"has no act: {told(given)}, where the script has {told(wanted)}")
     if is_same:
         wrong(place, f"spells an act otherwise than docs/FORMATS.md: {told(given)}, not {told(wanted)}")
-    raise CannotRun(f"ask_kernel did not run {told(wanted)}: line {place + 1} has {told(given)}")
+    raise NoRun(f" did not run {told(wanted)}: line {place + 1} has {told(given)}")
 
 
 class Waiting(NamedTuple):
@@ -293,4 +305,4 @@ def told(act: str) -> str:
 
 def wrong(place: int, why: str) -> NoReturn:
     """Fails for the line at a place of a run."""
-    raise CannotRun(f"ask_kernel: line {place + 1} {why}")
+    raise NoRun(f": line {place + 1} {why}")

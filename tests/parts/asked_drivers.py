@@ -1,6 +1,7 @@
 """What tools/compare.py tells of wrong systems, and of drivers that are wrong themselves: scripts stand in for them."""
 
 import shlex
+import stat
 import sys
 from collections.abc import Iterator, Sequence
 from functools import partial
@@ -483,7 +484,34 @@ def silence_is_told(program: str) -> None:
     """A driver that fails without a word is told so, in a line that does not end at a colon."""
     words = [sys.executable, str(TOOLS / "compare.py"), "--program", program, "--ask", "false", "--random", "1"]
     done = run(words, seconds=SECONDS)
-    same((3, b"compare.py: ask_kernel ends with status 1\n"), (done.status, done.stderr))
+    same((3, b"compare.py: false ends with status 1\n"), (done.status, done.stderr))
+
+
+def hanging_is_told(program: str) -> None:
+    """A driver that does not answer is told by its name after five seconds, and ended after as many as are given."""
+    words = ["--program", program, "--ask", "sleep 100", "--seconds", "7", "--random", "1"]
+    done = run([sys.executable, str(TOOLS / "compare.py"), *words], seconds=SECONDS)
+    said = done.stderr.decode().splitlines()
+    waits = "compare.py: waits for sleep 100, which is given a script, for 7 seconds at most"
+    require(done.status == 3 and waits in said, done.said())
+    same("compare.py: sleep 100: still running after 7.0 seconds", said[-1])
+
+
+def driver_is_named(program: str, folder: str) -> None:
+    """What is told of a driver names the command that was given."""
+    driver, script = Path(folder, "my-kernel"), Path(folder, "named.script")
+    driver.write_text(f'#!/bin/sh\nexec {sys.executable} {STAND_INS / "wrong_driver.py"} "$1"\n')
+    driver.chmod(stat.S_IRWXU)
+    faults = [
+        ("runs-no-unlink", ACTS, "did not run `p0 unlink Z9`"),
+        ("prints-no-closing", CLOSED, "line 3 has `house close-run`"),
+    ]
+    for way, text, told in faults:
+        script.write_text(text)
+        words = ["--program", program, "--ask", f"{driver} {way}", str(script)]
+        done = run([sys.executable, str(TOOLS / "compare.py"), *words], seconds=SECONDS)
+        line = done.stdout.decode().splitlines()[0]
+        require(done.status == 3 and f": {driver} {way}" in line and told in line, done.said())
 
 
 def is_run(program: str, folder: str, script: str) -> None:
@@ -530,6 +558,8 @@ def cases(program: str, folder: str) -> Iterator[Case]:
         yield way, partial(is_no_run, way, script, text)
     yield "an attach of a process that waits", partial(is_taken, ATTACHED_WAITING)
     yield "a driver that says nothing", partial(silence_is_told, program)
+    yield "a driver that hangs", partial(hanging_is_told, program)
+    yield "a driver that is named", partial(driver_is_named, program, folder)
     yield "no wrong way", partial(is_run, program, folder, CLOSED)
     for way, script, text in NOT_COMPARED:
         yield f"{way}, as it is told", partial(is_not_compared, program, folder, way, script, text)

@@ -619,6 +619,18 @@ def capacity_cases(program: str) -> Iterator[Case]:
     yield "a pipe of 4,096 bytes, as is told", partial(ends_with, program, page, 0, f"7 {end}", *room)
 
 
+def long_history() -> str:
+    """A history of 10,000 calls, of which few overlap: it takes seconds, where all pairs of them would take minutes."""
+    calls = [f"{10 * at} {10 * at + 11} p{at % 2} pwrite 0 {at % 100} x61 = 1\n" for at in range(1, 10_000)]
+    return f"{FORKED}{''.join(calls)}"
+
+
+def is_searched(program: str, text: str) -> None:
+    """An order of a history is found in a minute."""
+    ran = told(program, text, "--quiet")
+    same((0, b""), (ran.status, ran.stdout))
+
+
 def cases(program: str) -> Iterator[Case]:
     """What is printed, and each status."""
     totals = "histories 4 explained 3 unexplained 1 given up 0\n"
@@ -636,6 +648,7 @@ def cases(program: str) -> Iterator[Case]:
     yield from part_cases(program)
     wrong = ROOMY.replace("70 80 p0 write 1 61*600 = 600", "70 80 p0 read 0 9 = x")
     yield "a larger pipe, in vain", partial(fails, program, wrong, 1, "no order explains it")
+    yield "a long history", partial(is_searched, program, long_history())
     yield "quiet", partial(prints, program, four, 1, f"history 2: {BAD_LINES}{totals}", "--quiet")
     yield from reason_cases(program)
     yield "no history", partial(says_of_nothing, program)
