@@ -64,6 +64,7 @@ WRONG = {
     "gap": "rename",
     "own": "setfl",
     "halves": "setfl",
+    "turned-dry": "pipe",
 }
 
 
@@ -598,9 +599,29 @@ def is_found(bench: Bench, way: str, kind: str) -> None:
     raise Failure(f"{number} scripts of {kind} do not find it")
 
 
+def turned_is_raced(bench: Bench) -> None:
+    """On a system whose writing ends have the lower number they change places, so that pipes are raced, and orders are
+    found."""
+    library = bench.built(compilers()[0], "wrong_system")
+    driver = ["env", "WRONG_SYSTEM=turned", f"LD_PRELOAD={library}", *bench.asks()]
+    races = race.Races(race.Asked(bench.program, driver), SEED, None)
+    for number in range(3):
+        same([], [found for found in races.race("pipe", number, 0.5) if not found.reason])
+    require(races.asked.turns_pipes, "no pipe is turned")
+    script = "join\np0 pipe\np0 fork\np1 attach\nrace\np0 write 1 x61\np1 read 0 9\n"
+    found = races.asked.histories(script, 10, 1)
+    same({("p0 pipe = 0 1", "p1 read 0 9 = x61")}, {(texts(it)[1], texts(it)[-1]) for it in map(by_process, found)})
+
+
+def by_process(history: Sequence[Noted]) -> list[Noted]:
+    """The calls of a history, those of each process together."""
+    return sorted(history, key=lambda noted: noted.process)
+
+
 def wrong_cases(bench: Bench) -> Iterator[Case]:
     """Each wrong system."""
     if IS_LINUX:
+        yield "turned by pipe, which is not wrong", partial(turned_is_raced, bench)
         yield from ((f"{way} by {kind}", partial(is_found, bench, way, kind)) for way, kind in WRONG.items())
         yield from race_files.wrong_cases(bench.tools(), bench.built(compilers()[0], "wrong_system"))
         yield "nothing is left of them", bench.is_clean

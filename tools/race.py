@@ -10,7 +10,8 @@ make their calls at once, at full speed. XSH 2.9.7 asks that calls on regular fi
 has to be an order of the calls of a round, which keeps each process's own order and that of time, in which the plain
 model gives all answers that were seen. The order is searched for, and given to `fdref replay`, which has to print the
 same answers. Histories of a script that have the same answers and the same calls before others are searched once. The
-pipes of model and fdref hold 1,024 bytes, or as many as --pipe-capacity says.
+pipes of model and fdref hold 1,024 bytes, or as many as --pipe-capacity says. Where the writing end of a pipe has the
+lower number the ends change places before the race, by dup2 and close; that is told.
 
 A history that no order explains is told with its reason, if there is one: the page of the standard, and what is known
 of the system. The last lines count histories by kind and by reason.
@@ -48,7 +49,8 @@ from support.commands import ChosenLimits, add_capacity, add_program, capacity_w
 from support.counting import Failure
 from support.drivers import compiled
 from support.histories import History, Noted
-from support.plain_model import DEFAULTS, Limits
+from support.pipe_ends import is_turned
+from support.plain_model import DEFAULTS, OPEN_MAX, Limits
 from support.running import CannotRun, Ran, run
 from support.runs import Line
 from support.summaries import Counts, add_summary
@@ -58,6 +60,7 @@ import apart
 import race_kinds
 import race_table
 from compare_limits import reason_or_limit
+from compare_turns import moves
 
 # A script takes a share of the time; it has so many rounds, at least and at most, and a first guess of their speed.
 ROUNDS_LEAST = 10
@@ -266,9 +269,27 @@ class Asked:
         self.driver = driver
         self.limits = limits
         self.verified: set[str] = set()
+        # whether the system gives the writing end of a pipe the lower number
+        self.turns_pipes = False
 
     def histories(self, script: str, rounds: int, seed: int) -> list[list[Noted]]:
-        """The histories of so many rounds of a script."""
+        """The histories of so many rounds of a script, in which the ends of the pipes before the race change places
+        where the writing end has the lower number."""
+        setup, mark, parts = script.partition("race\n")
+        moves = moves_after(setup.splitlines(), self.limits)
+        if not any(moves):
+            return self.asked(script, rounds, seed)
+        if not self.turns_pipes:
+            found = self.asked(script, rounds, seed)
+            if not any(is_turned(noted) for noted in found[0][: len(moves)]):
+                return found
+            self.turns_pipes = True
+        lines = [it for line, more in zip(setup.splitlines(), moves, strict=True) for it in (line, *more)]
+        exchanged = "".join(f"{line}\n" for line in lines) + mark + parts
+        return [without_moves(history, moves) for history in self.asked(exchanged, rounds, seed)]
+
+    def asked(self, script: str, rounds: int, seed: int) -> list[list[Noted]]:
+        """The histories of a script as it is."""
         words = [*self.driver, "--rounds", str(rounds), "--seed", str(seed)]
         try:
             done = run(words, script.encode(), seconds=RUN_SECONDS)
@@ -286,11 +307,45 @@ class Asked:
             self.verified.add(key)
 
 
+def moves_after(setup: Sequence[str], limits: Limits) -> list[list[str]]:
+    """For each act before a race those that let the ends of a pipe change places which it makes: none where there is no
+    free descriptor for them."""
+    run = plain_model.Run(len(setup) + plain_model.RECORDS_DEFAULT, limits)
+    found: list[list[str]] = []
+    for line in setup:
+        act = plain_model.read_act(line.encode())
+        run.take(act)
+        process = run.world.processes.get(act.actor) if isinstance(act.actor, int) else None
+        ends = run.lines[-1].rstrip("\n").rpartition(" = ")[2].split(" ")
+        free = next((fd for fd in range(OPEN_MAX) if process and fd not in process.table), None)
+        is_made = act.word == "pipe" and ends[0].isdigit() and process and free is not None
+        moved = moves(process.number, *map(int, ends), free) if is_made and process and free is not None else []
+        found.append([it.decode() for it in moved])
+    return found
+
+
+def without_moves(history: Sequence[Noted], moves: Sequence[Sequence[str]]) -> list[Noted]:
+    """A history without these acts, in which the numbers of the ends of these pipes have changed places."""
+    found: list[Noted] = []
+    at = 0
+    for more in moves:
+        if at >= len(history):
+            break
+        noted = history[at]
+        found.append(noted._replace(outcome=" ".join(noted.outcome.split(" ")[::-1])) if more else noted)
+        at += 1 + len(more)
+    return [*found, *history[at:]]
+
+
 def last_said(done: Ran) -> str:
     """How a driver ended, and the end of what it said of that."""
     lines = [line.strip() for line in done.stderr.decode("utf-8", "replace").splitlines() if line.strip()]
     text = "; ".join(lines)
     return done.how() + (f": {text if len(text) <= SAID_MOST else '..' + text[-SAID_MOST:]}" if text else "")
+
+
+# What is told where the ends of the pipes of a system have changed places.
+TURNED = "which end of a pipe has the lower number (own; page of pipe): the ends have changed places before each race"
 
 
 # ---- one script
@@ -559,7 +614,7 @@ def race_file(args: argparse.Namespace, asked: Asked) -> int:
         tell(Unexplained(script, it.history, None), args.file, asked.limits)
     for it in bare if args.keep else []:
         keep_files(Unexplained(script, it.history, None), Path(args.file).stem, args.keep)
-    print("\n".join(table.last_lines(odd, untimely)))
+    print("\n".join([*([TURNED] if asked.turns_pipes else []), *table.last_lines(odd, untimely)]))
     return 1 if bare or is_setup_bare else 0
 
 
@@ -671,7 +726,7 @@ def main(words: Sequence[str]) -> int:
         except (CannotRun, replaying.Differs, histories.BadHistory) as fault:
             print(f"race.py: {fault}", file=sys.stderr)
             return 3
-    print(races.tally.text())
+    print("\n".join([*([TURNED] if races.asked.turns_pipes else []), races.tally.text()]))
     write_summary(args, races)
     return races.tally.status()
 

@@ -10,7 +10,9 @@
    gap         a rename takes the new name away before it gives it again
    own         F_SETFL changes the flags of its own descriptor alone
    halves      F_SETFL changes O_APPEND first, and O_NONBLOCK after it
-   creation    F_GETFL tells O_CREAT */
+   creation    F_GETFL tells O_CREAT
+   turned      the writing end of a pipe has the lower number, which is not wrong
+   turned-dry  and what is read from it are zeros */
 
 #define _GNU_SOURCE
 #define _FILE_OFFSET_BITS 64
@@ -127,6 +129,12 @@ ssize_t read(int fd, void *bytes, size_t size)
             lseek(fd, at + moved, SEEK_SET);
         return moved;
     }
+    if (is_wrong("turned-dry") && is_kind(fd, S_IFIFO)) {
+        ssize_t moved = syscall(SYS_read, fd, bytes, size);
+        if (moved > 0)
+            memset(bytes, 0, (size_t)moved);
+        return moved;
+    }
     if (is_wrong("lost") && is_kind(fd, S_IFIFO) && (fcntl(fd, F_GETFL) & O_NONBLOCK) == 0) {
         struct pollfd one = {fd, POLLIN, 0};
         if (poll(&one, 1, 0) == 0)
@@ -177,4 +185,24 @@ int fcntl(int fd, int command, ...)
     if (command == F_GETFL && get_flags(fd) >= 0 && is_wrong("creation"))
         return get_flags(fd) | O_CREAT;
     return (int)syscall(SYS_fcntl, fd, command, (long)value);
+}
+
+/* Gives the writing end the lower number, and the reading end the other one. */
+int pipe(int ends[2])
+{
+    int own;
+    if (syscall(SYS_pipe2, ends, 0) != 0)
+        return -1;
+    if (!is_wrong("turned") && !is_wrong("turned-dry"))
+        return 0;
+    own = (int)syscall(SYS_fcntl, ends[0], F_DUPFD, (long)(ends[1] + 1));
+    if (own < 0)
+        return 0;
+    dup2(ends[1], ends[0]);
+    dup2(own, ends[1]);
+    close(own);
+    own = ends[0];
+    ends[0] = ends[1];
+    ends[1] = own;
+    return 0;
 }
