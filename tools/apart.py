@@ -34,8 +34,8 @@ NOTHING: Instead = MappingProxyType({})
 
 class Apart(NamedTuple):
     """A call that fdref answers otherwise: its place in the order, what fdref answers in a run of which limits, the
-    reason, if there is one, whether what comes after it can be compared, and what was given instead of which calls up to
-    it, as what the system did."""
+    reason, if there is one, whether what comes after it can be compared, and what was given instead of which calls up
+    to it, as what the system did."""
 
     place: int
     noted: Noted
@@ -169,8 +169,8 @@ def is_given(noted: Noted, answer: str) -> bool:
 
 
 def differences(history: Sequence[Noted], limits: Limits, why: Why = reason_of) -> Iterator[Apart]:
-    """The calls, in this order, that the model answers otherwise. Where a reason says what such a call has to have done,
-    the model is given that instead, so that what comes after it is compared."""
+    """The calls, in this order, that the model answers otherwise. Where a reason says what such a call has to have
+    done, the model is given that instead, so that what comes after it is compared."""
     known: set[int] = set()
     instead: dict[int, Sequence[Act]] = {}
     answers = Beside(history, limits).answers

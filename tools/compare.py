@@ -54,8 +54,8 @@ from support.texts import several
 from compare_instead import ways
 from compare_limits import FEWER
 from compare_lines import SECONDS, Asked, first_unfit, in_other_order, is_at_once, moved
-from compare_reasons import OWN, REASONS, Difference, Reason, appended_to, follows_append, is_more_links, is_room
-from compare_reasons import process_of, reason_of, room_left, told_reason
+from compare_reasons import OWN, REASONS, TOO_MANY_LINKS, Difference, Reason, appended_to, follows_append
+from compare_reasons import is_more_links, is_room, process_of, reason_of, room_left, told_reason
 from compare_runs import Known, act_of, ends_of_closing, is_told_back, places_of_script, together
 from compare_walks import CLASSES, MANY_LINKS, class_of, random_lines, with_marks
 from waits import Long
@@ -164,7 +164,7 @@ def links_given(lines: list[Line], limits: Limits) -> int:
     """How many links a system gives a file by the first refusal of one more, or many where it refuses none."""
     beside = Beside(lines, limits, Known(link_max=MANY_LINKS))
     for place, line in enumerate(lines):
-        if " link " in line.act and line.outcome == "error EMLINK":
+        if " link " in line.act and line.outcome == TOO_MANY_LINKS:
             world = beside.world_before(place)
             file = world.names.get(plain_model.read_act(line.act.encode()).fields[0])
             return max(world.links(file) if file else 0, LINK_MAX)
@@ -278,8 +278,8 @@ def unexplained_of(asked: Asked, lines: list[Numbered], last: Difference | None)
 
 
 def unexplained_with_links(asked: Asked, lines: list[bytes]) -> Difference | None:
-    """The first difference without a reason of a script in which files have more links than fdref's: from fdref's model,
-    which has as many as the system gives."""
+    """The first difference without a reason of a script in which files have more links than fdref's: from fdref's
+    model, which has as many as the system gives."""
     marked = with_marks(lines, asked.limits, MANY_LINKS)
     system, found = compared(asked, [line for line, _ in marked], MANY_LINKS)
     last = found[-1] if found else None

@@ -100,8 +100,8 @@ class Asked:
         self.pipe_buf = self.most_at_once() if self.has_same_room and self.counts_bytes else PIPE_BUF
 
     def with_room(self) -> "Asked | None":
-        """The same, where pipes of fdref hold as many bytes as those of the system; or None where they do, or cannot, or
-        where the system does not count bytes."""
+        """The same, where pipes of fdref hold as many bytes as those of the system; or None where they do, or cannot,
+        or where the system does not count bytes."""
         can_have = PIPE_CAPACITY_LEAST <= self.all_room <= PIPE_CAPACITY_MOST
         if self.has_same_room or not self.counts_bytes or not can_have:
             return None

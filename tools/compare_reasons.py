@@ -16,6 +16,8 @@ from compare_runs import act_of
 
 # How many bytes of a read the driver sees at most.
 READ_MOST = 1_048_576
+# What a link answers to a file that has as many as it may.
+TOO_MANY_LINKS = "error EMLINK"
 # A name of the portable filename character set.
 PORTABLE = re.compile(rb"[A-Za-z0-9._-]*")
 
@@ -294,8 +296,9 @@ def may_give(it: Difference, outcome: str) -> bool:
 
 def put_before_read(it: Difference, pipe: plain_model.Pipe) -> int:
     """How many bytes later writes put into a pipe on the system, up to the first line that may be a read of it."""
-    ends = {number: {fd for fd, at in who.table.items() if at.pipe is pipe} for number, who in it.world.processes.items()}
-    has_names = any(walks.is_fifo(at.file) for who in it.world.processes.values() for at in who.table.values())
+    live = it.world.processes
+    ends = {number: {fd for fd, at in who.table.items() if at.pipe is pipe} for number, who in live.items()}
+    has_names = any(walks.is_fifo(at.file) for who in live.values() for at in who.table.values())
     put = 0
     for line in it.lines[it.place + 1 :]:
         who, word, *fields = f"{line.act}  ".split(" ")
@@ -318,9 +321,9 @@ def put_before_read(it: Difference, pipe: plain_model.Pipe) -> int:
 
 
 def most_after(it: Difference) -> int:
-    """How many bytes may still go into a pipe before the next read, where the system had no room for all of a write: none
-    where it put in what fits, and fewer than were asked for where that was nothing. A page that is not full may take
-    more of another write."""
+    """How many bytes may still go into a pipe before the next read, where the system had no room for all of a write:
+    none where it put in what fits, and fewer than were asked for where that was nothing. A page that is not full may
+    take more of another write."""
     whole, is_part = it.count(), it.system.isdigit()
     if is_part:
         return 0 if it.counts_bytes or whole <= PAGE else PAGE - 1
@@ -641,7 +644,7 @@ def is_full(it: Difference) -> bool:
 
 def is_more_links(it: Difference) -> bool:
     """More links than the profile has."""
-    return it.gives("error EMLINK") and it.system == "ok"
+    return it.gives(TOO_MANY_LINKS) and it.system == "ok"
 
 
 def is_more_names(it: Difference) -> bool:

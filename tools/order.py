@@ -165,8 +165,8 @@ class Orders:
         apart.confirm(self.program, ordered[: last.place + 1], last.limits, last.instead)
 
     def at_once(self, history: Sequence[Noted], ordered: Sequence[Noted]) -> Result:
-        """Why no order explains calls that overlap: with larger pipes, where the others have too little room and that is
-        not all."""
+        """Why no order explains calls that overlap: with larger pipes, where the others have too little room and that
+        is not all."""
         found = apart.possible(ordered, self.args.limits, reason_or_limit)
         if apart.is_out_of_room(ordered, self.args.limits, reason_or_limit) and not found:
             result = self.explained(history, ROOMY)

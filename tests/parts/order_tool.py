@@ -258,10 +258,10 @@ NO_LIMITS = [
 GOES_ON = [
     (FILED, "40 41 p0 write 0 x61 = error ENOSPC", "1", NO_SPACE, "42 43 p0 pread 0 0 9 = x", "x61", "x"),
     (FILED, "40 41 p0 open b rw,creat = error ENOSPC", "1", NO_SPACE, "42 43 p0 open a r = 1", "2", "1"),
-    (FILED, "40 41 p0 mkfifo b = error ENOSPC", "ok", NO_SPACE, "42 43 p0 unlink b = error ENOENT", "ok", "error ENOENT"),
+    (FILED, "40 41 p0 mkfifo b = error ENOSPC", "ok", NO_SPACE, "42 43 p0 mkfifo b = ok", "error EEXIST", "ok"),
     (FILED, "40 41 p0 fork = error EAGAIN", "1", CHILD, "42 43 p0 fork = 1", "2", "1"),
-    (FILED, "40 41 p0 open a r = error ENFILE", "1", MANY, "42 43 p0 dup 0 = 1", "2", "1"),
-    (TWENTY, "40 41 p0 dup 0 = error EMFILE", "20", FEWER, "42 43 p0 getfl 0 = 3", "1", "3"),
+    (FILED, "40 41 p0 open a r = error ENFILE", "1", MANY, "42 43 p0 open a r = 1", "2", "1"),
+    (TWENTY, "40 41 p0 open a r = error EMFILE", "20", FEWER, "42 43 p0 getfl 0 = 3", "1", "3"),
     (
         FILED,
         f"40 41 p0 pwrite 0 {2**32 - 2} x616161 = 2",
@@ -296,7 +296,7 @@ CONTRADICTED = [
 AGAIN = "22 23 p0 write 1 61*600 = 1"
 CONTRADICTED += [
     (HELD_NONBLOCK, "20 21 p0 write 1 61*600 = 1", "24", AGAIN),
-    (HELD_NONBLOCK, "20 21 p0 write 1 61*600 = 1", "24", "22 23 p0 dup 1 = 2\n24 25 p0 write 2 x61 = 1"),
+    (HELD_NONBLOCK, "20 21 p0 write 1 61*600 = 1", "24", "22 23 p0 dup2 1 2 = 2\n24 25 p0 write 2 x61 = 1"),
     (HELD_NONBLOCK, "20 21 p0 write 1 61*20 = error EAGAIN", "20", "22 23 p0 write 1 61*20 = 20"),
 ]
 # The nearest that it does not contradict, and the reason.

@@ -202,7 +202,9 @@ def are_at_once(history: Sequence[Noted], footprints: Footprints) -> bool:
     both = sorted(zip(history, footprints.touches, strict=True), key=lambda it: it[0].start)
     calls = [(noted, touch) for noted, touch in both if noted.act.word in ATOMIC]
     for place, (one, touch) in enumerate(calls):
-        for other, touched in itertools.takewhile(lambda it, one=one: not one.precedes(it[0]), itertools.islice(calls, place + 1, None)):
+        for other, touched in itertools.islice(calls, place + 1, None):
+            if one.precedes(other):
+                break
             if one.process != other.process and touch.disturbs(touched):
                 return True
     return False
