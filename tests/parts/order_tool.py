@@ -621,9 +621,9 @@ def capacity_cases(program: str) -> Iterator[Case]:
     yield "a pipe of 4,096 bytes, as is told", partial(ends_with, program, page, 0, f"7 {end}", *room)
 
 
-def long_history() -> str:
-    """A history of 10,000 calls, of which few overlap: it takes seconds, where all pairs of them would take minutes."""
-    calls = [f"{10 * at} {10 * at + 11} p{at % 2} pwrite 0 {at % 100} x61 = 1\n" for at in range(1, 10_000)]
+def long_history(count: int = 10_000) -> str:
+    """A history of many calls, of which few overlap: it takes seconds, where all pairs of them would take minutes."""
+    calls = [f"{10 * at} {10 * at + 11} p{at % 2} pwrite 0 {at % 100} x61 = 1\n" for at in range(1, count)]
     return f"{FORKED}{''.join(calls)}"
 
 
@@ -651,6 +651,8 @@ def cases(program: str) -> Iterator[Case]:
     wrong = ROOMY.replace("70 80 p0 write 1 61*600 = 600", "70 80 p0 read 0 9 = x")
     yield "a larger pipe, in vain", partial(fails, program, wrong, 1, "no order explains it")
     yield "a long history", partial(is_searched, program, long_history())
+    wrong = f"{long_history(4_000)}50000 50001 p0 pread 0 0 1 = x62\n"
+    yield "a long history with a wrong answer", partial(fails, program, wrong, 1, "page of pread")
     yield "quiet", partial(prints, program, four, 1, f"history 2: {BAD_LINES}{totals}", "--quiet")
     yield from reason_cases(program)
     yield "no history", partial(says_of_nothing, program)

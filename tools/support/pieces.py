@@ -6,6 +6,7 @@ is then a write of its own, made in the time of the whole.
 """
 
 import os
+from collections import deque
 from collections.abc import Iterator, Sequence
 
 from support import plain_model
@@ -62,16 +63,24 @@ def reads_of(history: Sequence[Noted]) -> Iterator[tuple[Noted, bytes]]:
 def in_parts(history: Sequence[Noted], most_at_once: int = PIPE_BUF) -> list[Noted] | None:
     """A history with the parts of its writes of more than so many bytes, or None where none has parts."""
     taken = {at: Taken(noted) for at, noted in enumerate(history) if noted.act.word == "write"}
+    has_pipe = any(noted.act.word in ("pipe", "mkfifo") for noted in history)
+    if not has_pipe or not any(len(it.data) > most_at_once for it in taken.values()):
+        return None
+    later = deque(sorted(taken.values(), key=lambda it: it.noted.start))
+    begun: list[Taken] = []
     for noted, data in reads_of(history):
+        while later and not noted.precedes(later[0].noted):
+            begun.append(later.popleft())
         while data:
-            begun = [it for it in taken.values() if not noted.precedes(it.noted)]
             best = max(begun, key=lambda it: it.same(data), default=None)
             count = best.same(data) if best else 0
             if not best or not count:
                 break
             best.take(count)
+            begun = [it for it in begun if it is not best or it.count < len(it.data)]
             data = data[count:]
-    parted = [it for at, noted in enumerate(history) for it in (taken[at].parts(most_at_once) if at in taken else [noted])]
+    parts = {at: it.parts(most_at_once) for at, it in taken.items()}
+    parted = [it for at, noted in enumerate(history) for it in parts.get(at, [noted])]
     return parted if len(parted) > len(history) else None
 
 

@@ -13,7 +13,7 @@ searched again, and has none. Four things are left out, until nothing more can b
 import time
 from collections.abc import Callable, Iterable, Sequence
 
-from support.footprints import CHANGE_DESCRIPTORS, Footprints, Touch
+from support.footprints import CHANGE_DESCRIPTORS, Footprints, Thing, Touch
 from support.histories import UNKNOWN, WAITS, Noted
 from support.plain_model import Limits
 from support.searching import Search, TooLong
@@ -48,6 +48,10 @@ class Shortening:
         self.each = each
         self.until = time.monotonic() + seconds
 
+    def is_over(self) -> bool:
+        """Whether there is no time left."""
+        return time.monotonic() >= self.until
+
     def has_no_order(self, history: Sequence[Noted]) -> bool:
         """Whether it is known that no order explains a history."""
         left = self.until - time.monotonic()
@@ -62,7 +66,7 @@ class Shortening:
         """A short part of a history that has no order."""
         before: list[Noted] = []
         part = list(history)
-        while part != before:
+        while part != before and not self.is_over():
             before = part
             part = self.ended_early(part)
             part = self.without_apart(part)
@@ -72,7 +76,7 @@ class Shortening:
 
     def changed(self, part: list[Noted], some: list[Noted], change: Change) -> list[Noted]:
         """A part in which as many of some calls are changed as can be: all, or those of each half by itself."""
-        if not some:
+        if not some or self.is_over():
             return part
         after = change(part, set(some))
         if self.has_no_order(after):
@@ -142,20 +146,18 @@ def is_silent(touch: Touch) -> bool:
 
 def influencing(touches: Sequence[Touch], place: int) -> set[int]:
     """The places of all calls that may have an influence on one call, with its own."""
-    kept = {place}
-    left = [place]
+    makers: dict[Thing, list[int]] = {}
+    for at, touch in enumerate(touches):
+        for thing in touch.changes | touch.holds if touch.is_known else ():
+            makers.setdefault(thing, []).append(at)
+    kept = {place, *(at for at, touch in enumerate(touches) if not touch.is_known)}
+    left = list(kept)
     while left:
         looked = touches[left.pop()]
-        for other, touch in enumerate(touches):
-            if other not in kept and influences(touch, looked):
-                kept.add(other)
-                left.append(other)
+        if not looked.is_known:
+            return set(range(len(touches)))
+        # those that make a thing are met once
+        found = {at for thing in looked.looks | looked.changes for at in makers.pop(thing, ())} - kept
+        kept |= found
+        left += found
     return kept
-
-
-def influences(one: Touch, other: Touch) -> bool:
-    """Whether a call may change what another one gives or does."""
-    if not (one.is_known and other.is_known):
-        return True
-    changes = one.changes | one.holds
-    return not changes.isdisjoint(other.looks | other.changes)
