@@ -3,8 +3,10 @@
 Which of the calls that came back together was served first is not seen on a system, so their other orders are tried.
 """
 
+import contextlib
 import copy
 import itertools
+import time
 from pathlib import Path
 
 from support import plain_model
@@ -17,7 +19,7 @@ from support.runs import ALL_RECORDS, Line, line_of
 from compare_runs import Known, NoRun, bytes_of_write, check_alike, ends_of_closing, is_told_back, places_of_script
 from compare_runs import run_of
 from compare_turns import moves_of, with_moves, without_moves
-from waits import Long, waits_for
+from waits import COMPUTES_SECONDS, Long, waits_for
 
 # How long the driver or fdref may take for a script.
 SECONDS = 120.0
@@ -91,6 +93,8 @@ class Asked:
         self.driver = driver
         self.driver_name = driver_name
         self.seconds = seconds
+        # those of which it was told that they are waited for
+        self.late: set[str] = set()
         self.limits = limits
         self.is_text = is_text
         self.all_room = self.room()
@@ -113,11 +117,14 @@ class Asked:
 
     def run(self, words: list[str], script: bytes, who: str) -> bytes:
         """What one of the two prints on a script."""
+        began = time.monotonic()
+        what = waits_for(f"{who}, which is given a script", self.seconds)
         try:
-            with Long(waits_for(f"{who}, which is given a script", self.seconds), "compare.py"):
+            with contextlib.nullcontext() if who in self.late else Long(what, "compare.py"):
                 done = run(words, script, seconds=self.seconds)
         except (Failure, OSError) as fault:
             raise CannotRun(f"{who}: {fault}") from None
+        self.late |= {who} if time.monotonic() - began > COMPUTES_SECONDS else set()
         if done.status != 0:
             said = done.stderr.decode("ascii", "replace").strip()
             raise CannotRun(f"{who} ends with {done.how()}" + (f": {said}" if said else ""))
