@@ -54,7 +54,7 @@ OF_A_PATH = re.compile(
     r"|l?(?:set|remove)xattr"
 )
 # Kinds that lead a program another way at most.
-ASIDE = (past.VFORK, past.INTERRUPT, past.CUT, past.TIMER, past.HANDLER, past.MAKES, past.RIGHTS, past.LOOK)
+ASIDE = (past.VFORK, past.INTERRUPT, past.CUT, past.TIMER, past.HANDLER, past.MAKES, past.RIGHTS, past.LOOK, past.OWN)
 # Kinds by which a program may go another way, beside what tells it something else.
 LEADS = (past.SIGNAL, past.LIMIT, past.INTERRUPT, past.MAKES)
 # What makes a name that is another one in each run.

@@ -23,8 +23,10 @@ streams of stdio, other programs. The shim notes what it sees of that, and it is
 first of it; --keep has all. A difference after it is told to may follow from it: from what has the same name,
 if any, else from the last; one of what is written to a stream, from the first. Under --strict it ends the
 program. Calls that the C library makes inside are not seen: so printf is lost where dup2 puts a file of fdref
-at descriptor 1. Of threads one makes a call at a time, so where one waits the others do, which is told at once
-on standard error.
+at descriptor 1. Not judged are closefrom, an execl of more than 31 words, and the format of dprintf, which the
+library answers by itself in both runs; that is told. Nor is a signal that a call blocks which waits for nobody,
+as dup2. Of threads one makes a call at a time, so where one waits the others do, which is told at once on
+standard error.
 
 Judged are the answers of the system, and not the program: a mistake of it that is the same in both runs
 is agreement.
@@ -565,7 +567,8 @@ class Verdict:
 
     def wrong_signals(self) -> list[str]:
         """What is said of signals that have ended a process on the system which ignores them, and of SIGPIPE where it
-        ended one with fdref at an EPIPE, and has not come on the system."""
+        ended one with fdref at an EPIPE, and has not come on the system; and what native calls have done beside their
+        answers that they may not do."""
         told = "{} has ended p{} on the system, which ignores it"
         found = ended_ignoring(self.native, self.both.system.status)
         said = [told.format(signal_named(number), process) for process, number in found]
@@ -574,7 +577,8 @@ class Verdict:
         broken = past.killed_by(self.past, signal.SIGPIPE)
         ended |= {way for number, way in ways.items() if number in broken}
         is_missing = any(map(self.has_gone_on, ended))
-        return said + ["no signal 13 (SIGPIPE) has come on the system with EPIPE"] * is_missing
+        said += ["no signal 13 (SIGPIPE) has come on the system with EPIPE"] * is_missing
+        return said + past.told_wrong(self.native)
 
     def has_gone_on(self, way: Way) -> bool:
         """Whether a process that ended with fdref at an EPIPE got that on the system by the same calls, and went on, or
@@ -669,7 +673,7 @@ class Verdict:
 
     def is_all_compared(self) -> bool:
         """Whether all that it did was compared, but for what only looks."""
-        is_all_seen = not self.compared.started.calls and not self.compared.looks()
+        is_all_seen = not self.compared.started.calls and not self.compared.looks() and not past.told_own(self.past)
         return is_all_seen and not past.doubt(self.past)
 
     def has_ended(self) -> bool:
@@ -946,7 +950,7 @@ def told(verdict: Verdict, seconds: float, before: int) -> str:
     lines += past.told_flags(verdict.flags)
     is_other = bool(findings) or do_outputs_differ(verdict.both)
     lines += past.told_signals(every) if is_other else []
-    lines += told_looks(len(verdict.compared.looks()))
+    lines += told_looks(len(verdict.compared.looks())) + past.told_own(every)
     lines += map(compare.clipped, told_started(verdict.compared.started) + past.told_past(every))
     return "\n".join([*lines, f"audit: {verdict.audit}"])
 

@@ -36,6 +36,10 @@ LOOK = "look"
 RIGHTS = "rights"
 # A native F_GETFD or F_SETFD that has answered otherwise than by the flag as it was set.
 CLOEXEC = "cloexec"
+# A call that the library answers by itself in both runs.
+OWN = "own"
+# What a native call has done beside its answer that it may not do.
+WRONG = "wrong"
 COUNTED = {
     PATH: "path",
     STREAM: "stream",
@@ -47,7 +51,7 @@ COUNTED = {
 MANY = {MAKES: "descriptors of the system"}
 
 # Kinds that have changed nothing in the native run which has no line, or are asked for by themselves.
-UNDOUBTED = (THREAD, SIGNAL, VFORK, CUT, INTERRUPT, TIMER, MADE, HANDLER, MAKES, RIGHTS, LOOK)
+UNDOUBTED = (THREAD, SIGNAL, VFORK, CUT, INTERRUPT, TIMER, MADE, HANDLER, MAKES, RIGHTS, LOOK, OWN, WRONG)
 
 # Calls that look, or hasten what comes anyway: they change no file, but may tell something else than natively.
 LOOKS = re.compile(
@@ -98,7 +102,7 @@ class Past(NamedTuple):
 
     def is_past(self) -> bool:
         """Whether it is a call that went past fdref, and not what holds one of fdref."""
-        return self.kind not in (THREAD, SIGNAL, MADE, INTERRUPT, HANDLER, MAKES, RIGHTS, LOOK)
+        return self.kind not in (THREAD, SIGNAL, MADE, INTERRUPT, HANDLER, MAKES, RIGHTS, LOOK, OWN, WRONG)
 
     def why(self) -> str:
         """The same as what a difference may be by."""
@@ -173,6 +177,12 @@ def told_past(every: list[Past]) -> list[str]:
     return [*lines, "vfork is fork in both runs: its child shares no memory with it"] if has_forked else lines
 
 
+def told_own(every: list[Past]) -> list[str]:
+    """Which calls of the program were not judged, since the library answers them by itself."""
+    calls = dict.fromkeys(it.call for it in every if it.kind == OWN)
+    return [f"not compared: {', '.join(calls)}, which the library answers by itself in both runs"] if calls else []
+
+
 def told_signals(every: list[Past]) -> list[str]:
     """That a child which a signal ended may be there in fdref for longer than its parent knows."""
     told = "signal {}: fdref may record the exit of a child that it ended after its parent's wait"
@@ -236,6 +246,11 @@ def told_flags(found: list[Past]) -> list[str]:
         return []
     count = several(len(found), "answer about FD_CLOEXEC differs", "answers about FD_CLOEXEC differ")
     return [f"{count} from what was set: system: p{found[0].number} fcntl {found[0].call} {found[0].name}"]
+
+
+def told_wrong(native: list[Past]) -> list[str]:
+    """What native calls have done beside their answers that they may not do."""
+    return [f"system: p{it.number} {it.call}: {it.name}" for it in native if it.kind == WRONG]
 
 
 def looked_apart(native: list[Past], every: list[Past]) -> tuple[str, str] | None:

@@ -10,8 +10,8 @@
                         Of a call that waited the place is that of the record that ended it. A join, an attach and an
                         exit have no line. Without FDREF_SOCKET the run is *native*: the functions answer that come
                         after this library, by the very names that the program calls, so that those of a C library of
-                        its own do. But vfork is fork, closefrom is close_range, an exec without an environment is one
-                        with it, and dprintf is given "%s" and the text, or is vdprintf where that has zeros. The lines
+                        its own do. But vfork is fork, closefrom is close_range, an execl of more than 31 words is an
+                        execve, and dprintf is given "%s" and the text, or is vdprintf where that has zeros. The lines
                         are the same, with `-` in place of the place, and of other threads than the first one to make a
                         call of its process `-1`, `-2` and so on.
      FDREF_STARTS=1     In a native run `@` stands after that, and how many bytes the log had before the call began.
@@ -22,9 +22,10 @@
                         after a tab its name: `! 6 p0 path open<tab>d/x`, `! 6 p0 program system<tab>./a`, `! 6 p0
                         thread read`. In `! 6 p0 call poll<tab>3` it is a descriptor of fdref. Where FDREF_STRICT would
                         not tell it `-` stands for `!`: `- 6 p0 stream fopen<tab>/tmp/x`, and `- 6 p0 stdio 1`, as a
-                        file of fdref comes to be at descriptor 0, 1 or 2. `- 6 p0 signal 11` is a child that a signal
-                        ended, as wait, waitid or waitpid told, after a tab its number where that is known; `- 6 p0
-                        vfork fork` a vfork, and `- 6 p0 interrupt read` a signal in a call that waits, whose handler
+                        file of fdref comes to be at descriptor 0, 1 or 2. `- 6 p0 own closefrom` is a call that this
+                        library answers by itself in both runs. `- 6 p0 signal 11` is a child that a signal ended, as
+                        wait, waitid or waitpid told, after a tab its number where that is known; `- 6 p0 vfork fork` a
+                        vfork, and `- 6 p0 interrupt read` a signal in a call that waits, whose handler
                         restarts none. So are `- 6 p0 timer alarm` and `! 6 p0 limit RLIMIT_FSIZE`, as a program starts
                         a timer or sets that limit or RLIMIT_NOFILE; `- 6 p0 look stat<tab>a = regular 5 1` is what a
                         stat of a name has told; `- 6 p0 rights setuid` is a call by which it may lose those of the
@@ -32,11 +33,12 @@
                         14<tab>ends`, as it sets a handler of signal 14 that ends calls, or `restarts` them, or takes it
                         away (`none`), or as the signal is `ignored`. `- 6 p0 makes socket` is a call that makes a
                         descriptor of the system, from 32 on, where a native run has the lowest that is free. In a
-                        native run seven kinds are there: after `- 0 p0 cut exit` a process ended while others of its
+                        native run eight kinds are there: after `- 0 p0 cut exit` a process ended while others of its
                         threads may have been in a call; by `! 0 p0 made 3` a descriptor is higher since 3 is open,
                         which no call made that fdref knows; and `signal`, `look`, `handler` and `! 57 p0 cloexec
                         F_GETFD<tab>3 = 0`, with the length of the log in the place of the place: F_GETFD, or F_SETFD,
                         has answered otherwise than by FD_CLOEXEC as this library keeps it, in a process of one thread.
+                        So is `! 57 p0 wrong write<tab>has changed which signals are blocked`, which no line tells.
                         There a child has the handlers of its parent once more, and after an exec 0 stands for all
                         signals. After `ends heard` or `restarts heard` this library calls the handler, and notes `- 57
                         p0 ran 14` before.
@@ -191,6 +193,7 @@ int __cxa_atexit(void (*function)(void *), void *argument, void *library);
 #include "system.h"
 #include "shared.h"
 #include "table.h"
+#include "watch.h"
 
 /* ---- descriptors that are made */
 
@@ -264,7 +267,9 @@ static int64_t gone_to_lowest(const struct going *it, int64_t given)
     do { \
         const void *before = go_in(&next); \
         const int64_t start = began; \
+        const struct masked masked = before_call(); \
         given = call; \
+        after_call(&masked, __func__); \
         began = start; \
         within = before; \
     } while (0)
@@ -475,7 +480,13 @@ int close_range(unsigned first, unsigned last, int flags)
 }
 
 /* The next one would close numbers of this library. */
-void closefrom(int first) { close_range(first < 0 ? 0 : (unsigned)first, UINT_MAX, 0); }
+void closefrom(int first)
+{
+    static int is_noted;
+    prepare();
+    answers_itself("closefrom", &is_noted);
+    close_range(first < 0 ? 0 : (unsigned)first, UINT_MAX, 0);
+}
 
 /* A file of fdref that stdio closes, as programs do with standard output at their end. The close is not logged, since
    the C library makes it natively. */
@@ -508,13 +519,13 @@ int fclose(FILE *file)
 
 /* ---- read and write */
 
-/* A transfer: the call, its bytes, the parts from which they come or to which they go, or NULL, and the signals that
-   were blocked before. */
+/* A transfer: the call, its bytes, the parts from which they come or to which they go, or NULL, and what SIGPIPE does
+   meanwhile. */
 struct moving {
     struct going going;
     char *bytes;
     const struct iovec *parts;
-    sigset_t signals;
+    struct keeping pipes;
 };
 
 static int is_write(int kind) { return kind == FDREF_WRITE || kind == FDREF_PWRITE; }
@@ -606,24 +617,17 @@ static int64_t asked_transfer(struct fdref_act act, char *bytes)
     return moved;
 }
 
-/* A transfer of the system that is to be logged. The signal of EPIPE comes after that; of others nothing is changed. */
+/* A transfer of the system that is to be logged. */
 static void begin_moving(struct moving *it)
 {
-    sigset_t pipes;
-    sigemptyset(&pipes);
-    sigaddset(&pipes, SIGPIPE);
-    pthread_sigmask(SIG_BLOCK, is_write(it->going.act.kind) ? &pipes : NULL, &it->signals);
+    if (is_write(it->going.act.kind))
+        keep_pipes(&it->pipes);
 }
 
-static void end_moving(struct moving *it)
+static void end_moving(struct moving *it, int64_t given)
 {
-    int error = errno;
-    sigset_t pipes;
-    sigemptyset(&pipes);
-    if (is_write(it->going.act.kind) && !sigismember(&it->signals, SIGPIPE))
-        sigaddset(&pipes, SIGPIPE);
-    pthread_sigmask(SIG_UNBLOCK, &pipes, NULL);
-    errno = error;
+    if (is_write(it->going.act.kind))
+        let_pipes(&it->pipes, words[it->going.act.kind - FDREF_OPEN], given, it->going.act.count);
 }
 
 static int is_moved(struct moving *it)
@@ -644,7 +648,7 @@ static ssize_t moved(struct moving *it, ssize_t given)
     if (it->parts && !is_write(it->going.act.kind) && given > 0)
         spread(it->parts, it->bytes, (size_t)(given < most ? given : most), 1);
     ALONE(in_pieces(it->going.act, it->bytes, given));
-    end_moving(it);
+    end_moving(it, given);
     return given;
 }
 
@@ -806,7 +810,7 @@ static int printed(struct printing *it, int done)
     errno = error;
     if (act.count > 0 && done < 0)
         ALONE(in_pieces(rest, it->moving.bytes + some, -1));
-    end_moving(&it->moving);
+    end_moving(&it->moving, done);
     return done;
 }
 
@@ -824,6 +828,8 @@ static int printed(struct printing *it, int done)
    zeros in it. */
 #define PRINTS_VALUES(fd, format, text, size, call, by_list) \
     do { \
+        static int is_noted; \
+        answers_itself("the format of dprintf", &is_noted); \
         if (strlen(text) != (size_t)size) { \
             free(text); \
             va_start(values, format); \

@@ -402,6 +402,7 @@ static pid_t fork_natively(pid_t (*next)(void))
     if (made == 0) {
         own_pid = getpid();
         native_number = number;
+        say_exit(own_pid, -1);
         forget_threads();
         note_handlers();
     }
@@ -453,43 +454,137 @@ static pid_t ended_child(pid_t child, int status)
     return child;
 }
 
-#define WAITS(name, parameters, words) \
+/* ---- what a native wait tells, beside what the kernel tells of the children */
+
+/* A wait for a child, or any: -1. What had ended before is known where no other thread or handler waits for it. */
+struct waiting {
+    const char *name;
+    pid_t which, child;
+    int is_known, options, code, status;
+    unsigned runs;
+};
+enum { KNOWN_OPTIONS = WNOHANG | WUNTRACED | WCONTINUED };
+
+/* Asks the kernel whether there is a child, and which one has ended, without waiting. */
+static int has_child(pid_t which, siginfo_t *ended)
+{
+    memset(ended, 0, sizeof *ended);
+    return system_syscall(SYS_waitid, (long)(which > 0 ? P_PID : P_ALL), (long)(which > 0 ? which : 0), ended,
+                          (long)(WEXITED | WNOHANG | WNOWAIT), NULL) == 0;
+}
+
+static struct waiting begin_waiting(const char *name, pid_t which, int options)
+{
+    struct waiting it = {name, which, 0, 0, options, 0, 0, runs};
+    siginfo_t ended;
+    int error = errno;
+    it.is_known = is_watching() && (which > 0 || which == -1) && (options & ~KNOWN_OPTIONS) == 0;
+    if (it.is_known && is_alone() && has_child(which, &ended)) {
+        it.child = ended.si_pid;
+        it.code = ended.si_code;
+        it.status = ended.si_status;
+    }
+    errno = error;
+    return it;
+}
+
+/* Whether a child ended as the kernel has told before. */
+static int is_status(const struct waiting *it, int status)
+{
+    if (it->code == CLD_EXITED)
+        return WIFEXITED(status) && WEXITSTATUS(status) == (it->status & 255);
+    return WIFSIGNALED(status) && WTERMSIG(status) == it->status;
+}
+
+static void check_ended(const struct waiting *it, pid_t child, int status)
+{
+    char text[80];
+    siginfo_t ended;
+    int said = said_exit(child);
+    if (it->which > 0 && child != it->which)
+        note_wrong(it->name, "has told another child than it was asked for");
+    else if (!WIFEXITED(status) && !WIFSIGNALED(status))
+        return;
+    else if (has_child(child, &ended))
+        note_wrong(it->name, "has told the end of a child that is still there");
+    else if (child == it->child && !is_status(it, status))
+        note_wrong(it->name, "has told otherwise how a child has ended");
+    else if (WIFEXITED(status) && said >= 0 && WEXITSTATUS(status) != said) {
+        snprintf(text, sizeof text, "has told that a child has exited with %d, which has with %d", WEXITSTATUS(status),
+                 said);
+        note_wrong(it->name, text);
+    }
+}
+
+static void check_wait(const struct waiting *it, pid_t child, int status)
+{
+    int error = errno;
+    siginfo_t ended;
+    if (it->is_known && child > 0)
+        check_ended(it, child, status);
+    else if (it->is_known && child == 0 && (it->options & WNOHANG) == 0)
+        note_wrong(it->name, "has told of no child, without WNOHANG");
+    else if (it->is_known && child == 0 && it->child > 0 && it->runs == runs)
+        note_wrong(it->name, "has told of no child, and one has ended");
+    else if (it->is_known && child < 0 && error != EINTR && is_alone() && has_child(it->which, &ended))
+        note_wrong(it->name, "has failed, and there is such a child");
+    errno = error;
+}
+
+#define WAITS(name, parameters, words, which, options) \
     pid_t name parameters \
     { \
         static __typeof__(&name) next; \
+        struct waiting waiting; \
         int own = 0, *status = given ? given : &own; \
         pid_t child; \
         prepare(); \
         find(&next, #name); \
+        waiting = begin_waiting(#name, which, options); \
         child = next words; \
+        check_wait(&waiting, child, child > 0 ? *status : 0); \
         return child > 0 ? ended_child(child, *status) : child; \
     }
+
+/* What a status of waitpid is where waitid has told this. */
+static int status_in(const siginfo_t *told)
+{
+    return told->si_code == CLD_EXITED ? (told->si_status & 255) << 8 : told->si_status & 127;
+}
+
 int waitid(idtype_t kind, id_t which, siginfo_t *given, int options)
 {
     static __typeof__(&waitid) next;
     siginfo_t own, *to = given ? given : &own;
-    int done;
+    struct waiting waiting;
+    int done, is_ended;
     prepare();
     find(&next, "waitid");
     memset(&own, 0, sizeof own);
+    waiting = begin_waiting("waitid", kind == P_PID ? (pid_t)which : kind == P_ALL ? -1 : 0, options & ~WEXITED);
+    waiting.is_known = waiting.is_known && (options & (WEXITED | WNOWAIT)) == WEXITED;
     done = next(kind, which, to, options);
-    if (done == 0 && to->si_pid > 0 && to->si_code == CLD_EXITED)
-        ended_child(to->si_pid, 0);
-    if (done == 0 && to->si_pid > 0 && (to->si_code == CLD_KILLED || to->si_code == CLD_DUMPED))
-        ended_child(to->si_pid, to->si_status);
+    is_ended = done == 0 && to->si_pid > 0
+               && (to->si_code == CLD_EXITED || to->si_code == CLD_KILLED || to->si_code == CLD_DUMPED);
+    if (is_ended || done != 0)
+        check_wait(&waiting, is_ended ? to->si_pid : -1, is_ended ? status_in(to) : 0);
+    if (is_ended)
+        ended_child(to->si_pid, status_in(to));
     return done;
 }
 
-WAITS(wait, (int *given), (status))
-WAITS(waitpid, (pid_t which, int *given, int options), (which, status, options))
-WAITS(wait3, (int *given, int options, struct rusage *used), (status, options, used))
-WAITS(wait4, (pid_t which, int *given, int options, struct rusage *used), (which, status, options, used))
+WAITS(wait, (int *given), (status), -1, 0)
+WAITS(waitpid, (pid_t which, int *given, int options), (which, status, options), which, options)
+WAITS(wait3, (int *given, int options, struct rusage *used), (status, options, used), -1, options)
+WAITS(wait4, (pid_t which, int *given, int options, struct rusage *used), (which, status, options, used), which,
+      options)
 
 #define ENDS(name) \
     void name(int status) \
     { \
         NEXT_OF(name); \
         prepare(); \
+        tell_exit(status); \
         end(); \
         for (;;) \
             next(status); \

@@ -108,8 +108,8 @@ FORKS(__fork)
 FORKS(__libc_fork)
 FORKS(_Fork)
 pid_t __vfork(void) { return vfork(); }
-WAITS(__wait, (int *given), (status))
-WAITS(__waitpid, (pid_t which, int *given, int options), (which, status, options))
+WAITS(__wait, (int *given), (status), -1, 0)
+WAITS(__waitpid, (pid_t which, int *given, int options), (which, status, options), which, options)
 TELLS_NUMBERS(__sysconf)
 
 /* What is compiled with checks of buffers has the C library check the format too. */

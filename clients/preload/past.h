@@ -484,21 +484,25 @@ mode_t umask(mode_t mask)
 /* A handler that the program has set runs, and it is noted before. */
 static void hear(int number)
 {
+    struct keeping *kept = pause_keeping();
     note_run(number);
+    runs++;
     if (passed_on[number].plain)
         passed_on[number].plain(number);
+    go_on_keeping(kept);
 }
 
 static void hear_more(int number, siginfo_t *info, void *context)
 {
+    struct keeping *kept = pause_keeping();
     note_run(number);
+    runs++;
     if (passed_on[number].more)
         passed_on[number].more(number, info, context);
+    go_on_keeping(kept);
 }
 
-/* Whether natively this library is to call a handler of a signal. A library in between may set one by another function
-   that is here. */
-static __thread int is_setting;
+/* Whether natively this library is to call a handler of a signal. */
 static int hears(int number)
 {
     return how == NATIVE && past_file >= 0 && number > 0 && number < NSIG && !is_setting;
@@ -654,8 +658,9 @@ static int is_same(char *const env[], const char *name)
     return here && there && strcmp(here, there) == 0;
 }
 
-/* The environment with what is handed on, or NULL where that cannot be. */
-static char **handing(char *const env[], char *handed, size_t size)
+/* The environment with what is handed on to a program with these words, or NULL where that cannot be. There is room for
+   one more. */
+static char **handing(const char *what, char *const list[], char *const env[], char *handed, size_t size)
 {
     size_t count = 0;
     char **with;
@@ -664,14 +669,64 @@ static char **handing(char *const env[], char *handed, size_t size)
         return NULL;
     while (env[count])
         count++;
-    with = (char **)malloc((count + 2) * sizeof *with);
+    with = (char **)calloc(count + 3, sizeof *with);
     if (!with)
         return NULL;
-    put_table(handed, size);
+    put_table(handed, size, what, list);
     memcpy(with, env, count * sizeof *with);
     with[count] = handed;
-    with[count + 1] = NULL;
     return with;
+}
+
+/* Whether natively the function of this name is called itself, and not the one that is told the environment. */
+static int is_called(const struct program *program, const char *name)
+{
+    return how == NATIVE && strcmp(program->what, name) == 0;
+}
+
+typedef int runs_listed(const char *, const char *, ...);
+enum { LISTED_MOST = 32 };
+
+/* Calls a function that lists the words, after which the environment may stand. What follows is not looked at. */
+static int run_listed(runs_listed *next, const char *path, char *const list[], char *const env[])
+{
+    const char *it[LISTED_MOST + 2] = {NULL};
+    int count = 0;
+    for (; list[count]; count++)
+        it[count] = list[count];
+    if (env)
+        memcpy(&it[count + 1], &env, sizeof(void *));
+#define EIGHT(at) it[at], it[at + 1], it[at + 2], it[at + 3], it[at + 4], it[at + 5], it[at + 6], it[at + 7]
+    return next(path, EIGHT(0), EIGHT(8), EIGHT(16), EIGHT(24), it[LISTED_MOST], it[LISTED_MOST + 1]);
+#undef EIGHT
+}
+
+/* Whether a list is short enough for that. */
+static int is_short(char *const list[])
+{
+    int count = 0;
+    while (count < LISTED_MOST && list[count])
+        count++;
+    return count < LISTED_MOST;
+}
+
+/* Runs a program by a function that takes the environment of this process, which is another one meanwhile. */
+static int run_here(const char *name, const char *path, char *const list[], char *const env[])
+{
+    runs_listed *listed = NULL;
+    int (*by_list)(const char *, char *const[]) = NULL;
+    char **was = environ;
+    int done;
+    memcpy(&environ, &env, sizeof(void *));
+    if (name[4] == 'l') {
+        find(&listed, name);
+        done = run_listed(listed, path, list, strcmp(name, "execle") == 0 ? env : NULL);
+    } else {
+        find(&by_list, name);
+        done = by_list(path, list);
+    }
+    environ = was;
+    return done;
 }
 
 static int run_in(const struct program *program, char *const list[], char *const env[])
@@ -680,6 +735,9 @@ static int run_in(const struct program *program, char *const list[], char *const
     static int (*sought)(const char *, char *const[], char *const[]);
     static int (*by_fd)(int, char *const[], char *const[]);
     static int (*in)(int, const char *, char *const[], char *const[], int);
+    int is_listed = is_called(program, "execl") || is_called(program, "execlp") || is_called(program, "execle");
+    if (is_called(program, "execv") || is_called(program, "execvp") || (is_listed && is_short(list)))
+        return run_here(program->what, program->path, list, env);
     if (program->is_sought) {
         find(&sought, "execvpe");
         return sought(program->path, list, env);
@@ -696,6 +754,21 @@ static int run_in(const struct program *program, char *const list[], char *const
     return by_path(program->path, list, env);
 }
 
+/* A native exec has failed. Where the kernel goes on with the program that is noted by it. */
+static void run_otherwise(const struct program *program, char *const list[], char **with)
+{
+    char failed[60];
+    size_t count = 0;
+    if (!program->path || program->fd != AT_FDCWD || (program->is_sought && !strchr(program->path, '/')))
+        return;
+    snprintf(failed, sizeof failed, "%s%s", failed_name, program->what);
+    while (with[count])
+        count++;
+    with[count] = failed;
+    system_syscall(SYS_execve, program->path, list, with);
+    with[count] = NULL;
+}
+
 static int run(struct program program, char *const list[], char *const env[])
 {
     char handed[HANDED_MOST], **with;
@@ -705,13 +778,15 @@ static int run(struct program program, char *const list[], char *const env[])
         leave_out("program", program.what, program.path);
         return (int)fails(ENOSYS);
     }
-    with = handing(env, handed, sizeof handed);
+    with = handing(program.what, list, env, handed, sizeof handed);
     if (with)
         hand_files(0);
     else if (how == ASKED)
         leave_out("program", program.what, program.path);
     run_in(&program, list, with ? with : env);
     error = errno;
+    if (with && is_watching())
+        run_otherwise(&program, list, with);
     if (with)
         hand_files(FD_CLOEXEC);
     free(with);

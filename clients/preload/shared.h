@@ -6,10 +6,12 @@
 struct named {
     uint64_t hash, inode, times;
 };
-enum { NAMED_MOST = 4096 };
+enum { NAMED_MOST = 4096, EXITS_MOST = 1024 };
 struct shared {
     uint32_t next_number;
     struct named named[NAMED_MOST];
+    /* the exits of processes as they make them: the number in the system, and the status after that */
+    uint64_t exits[EXITS_MOST];
 };
 static struct shared *shared;
 
@@ -31,6 +33,24 @@ static void begin_sharing(void)
     shared_file = hidden(made);
     map_shared();
     shared->next_number = 1;
+}
+
+/* ---- exits */
+
+static uint64_t *exit_of(pid_t pid) { return &shared->exits[(uint64_t)pid % EXITS_MOST]; }
+
+/* Says that this process exits with a status, or that it is there, below 0. */
+static void say_exit(pid_t pid, int status)
+{
+    uint64_t said = status < 0 ? 0 : (uint64_t)pid << 32 | (uint64_t)(status & 255);
+    __atomic_store_n(exit_of(pid), said, __ATOMIC_SEQ_CST);
+}
+
+/* The status with which a process has exited, or -1 where it has said none. */
+static int said_exit(pid_t pid)
+{
+    uint64_t said = __atomic_load_n(exit_of(pid), __ATOMIC_SEQ_CST);
+    return said >> 32 == (uint64_t)pid ? (int)(said & 255) : -1;
 }
 
 /* ---- the numbers of files

@@ -207,6 +207,14 @@ static void goes_past(char mark, const char *kind, const char *what, const char 
         note_past(mark, process->place, (uint32_t)process->number, kind, what, of);
 }
 
+/* Notes once that this library answers a call by itself in both runs. */
+static void answers_itself(const char *what, int *is_noted)
+{
+    if (how == ASKED && process && !*is_noted)
+        goes_past('-', "own", what, NULL);
+    *is_noted |= how == ASKED;
+}
+
 /* The same in a native run, which has no places. */
 static void goes_past_natively(char mark, const char *kind, const char *what)
 {
@@ -223,6 +231,15 @@ static void notes(const char *kind, const char *what, const char *of)
         note_past('-', (uint64_t)log_length(), native_number, kind, what, of);
     else
         goes_past('-', kind, what, of);
+}
+
+/* Whether it is noted natively what the system does otherwise than it has to, though no line tells it. */
+static int is_watching(void) { return how == NATIVE && past_file >= 0; }
+
+static void note_wrong(const char *call, const char *what)
+{
+    if (is_watching())
+        note_past('!', (uint64_t)log_length(), native_number, "wrong", call, what);
 }
 
 /* Notes how a signal is handled from now on; 0 stands for all signals. */

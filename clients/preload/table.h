@@ -417,6 +417,9 @@ struct passed_on {
 static struct passed_on passed_on[NSIG];
 static char are_heard[NSIG];
 
+/* A library in between may set a handler by another function that is here. */
+static __thread int is_setting;
+
 static void note_how(int number)
 {
     note_handling(number, (are_heard[number] ? told_heard : told_handlings)[handlings[number]]);
@@ -473,6 +476,21 @@ static void end(void)
     process = NULL;
     pthread_mutex_unlock(&mutex);
 }
+
+/* Natively a process says with which status it exits. */
+static void tell_exit(int status)
+{
+    if (how == NATIVE && own_pid == getpid())
+        say_exit(own_pid, status & 255);
+}
+
+#ifdef __GLIBC__
+static void tell_at_exit(int status, void *unused)
+{
+    (void)unused;
+    tell_exit(status);
+}
+#endif
 
 static void end_at_exit(void *unused)
 {
@@ -543,10 +561,58 @@ static void begin_natively(void)
 /* ---- from one program to the next
 
    An exec hands the process on in a variable of the environment: its number in the system, its number and place in the
-   run, the descriptors of the connection, or -1, and of what is shared, and the table. */
+   run, the descriptors of the connection, or -1, and of what is shared, the table, and the words of the program. */
 
-static const char handed_name[] = "FDREF_HANDED=";
-enum { HANDED_MOST = 200 + NUMBERS * 30 };
+static const char handed_name[] = "FDREF_HANDED=", failed_name[] = "FDREF_FAILED=";
+enum { HANDED_MOST = 250 + NUMBERS * 30 };
+
+/* How many words a program is given, the first one, and the others. */
+struct given_words {
+    int count;
+    uint64_t first, others;
+};
+
+static void add_word(struct given_words *it, const char *word)
+{
+    if (it->count++ == 0)
+        it->first = hash_of(word);
+    else
+        it->others = (it->others ^ hash_of(word)) * UINT64_C(1099511628211);
+}
+
+/* The words that this program has in the system, of which the last ones are looked at, where it has so many. */
+static struct given_words words_here(int last)
+{
+    enum { MOST = 1 << 20 };
+    struct given_words all = {0, 0, 0}, it = {0, 0, 0};
+    char *text = (char *)calloc(MOST + 1, 1);
+    int file = system_open("/proc/self/cmdline", O_RDONLY | O_CLOEXEC, 0);
+    ssize_t size = 0, some = 1;
+    while (text && file >= 0 && some > 0 && size < MOST) {
+        some = (ssize_t)system_syscall(SYS_read, (long)file, text + size, (size_t)(MOST - size));
+        size += some > 0 ? some : 0;
+    }
+    for (ssize_t at = 0; at < size && size < MOST; at += (ssize_t)strlen(text + at) + 1)
+        add_word(&all, text + at);
+    for (ssize_t at = 0, number = 0; at < size && size < MOST; at += (ssize_t)strlen(text + at) + 1, number++)
+        if (number == 0 || number > all.count - last)
+            add_word(&it, text + at);
+    it.count = all.count;
+    system_close(file);
+    free(text);
+    return it;
+}
+
+/* Notes natively that an exec has given other words. A script has its interpreter before it, and no first word. */
+static void check_words(const char *what, struct given_words given)
+{
+    struct given_words here = words_here(given.count);
+    int is_script = here.count > given.count;
+    if (given.count == 0 || here.count == 0)
+        return;
+    if (here.count < given.count || here.others != given.others || (!is_script && here.first != given.first))
+        note_wrong(what, "has given a program other words");
+}
 
 /* Lets an exec keep what is handed on, or close it. */
 static void hand_files(int flags)
@@ -556,18 +622,33 @@ static void hand_files(int flags)
         system_fcntl(process->socket, F_SETFD, flags);
 }
 
-static void put_table(char *to, size_t size)
+static void put_table(char *to, size_t size, const char *what, char *const list[])
 {
+    struct given_words given = {0, 0, 0};
     int used = snprintf(to, size, "%s%ld %ld %llu %d %d", handed_name, (long)getpid(),
                         process ? (long)process->number : (long)native_number,
                         process ? (unsigned long long)process->place : 0, process ? process->socket : -1, shared_file);
     for (int fd = 0; fd < NUMBERS; fd++)
         used += snprintf(to + used, size - (size_t)used, " %d %d %d %llx", known[fd] ? (int)slots[fd].held : FREE,
                          slots[fd].is_cloexec, slots[fd].is_pipe, (unsigned long long)slots[fd].inode);
+    for (; *list; list++)
+        add_word(&given, *list);
+    snprintf(to + used, size - (size_t)used, " %d %llx %llx %s", given.count, (unsigned long long)given.first,
+             (unsigned long long)given.others, what);
 }
 
 /* Reads one number of what was handed on. */
 static long long next_of(char **at, int base) { return strtoll(*at, at, base); }
+
+static struct given_words next_words(char **at)
+{
+    struct given_words given;
+    given.count = (int)next_of(at, 10);
+    given.first = strtoull(*at, at, 16);
+    given.others = strtoull(*at, at, 16);
+    *at += **at == ' ';
+    return given;
+}
 
 /* What an exec closes is closed in fdref too. Gives whether the program opened the number before this library began. */
 static int take_slot(int fd, struct slot slot)
@@ -589,6 +670,7 @@ static int take_over(char *at)
     long number;
     unsigned long long place;
     int connection, are_early[NUMBERS];
+    struct given_words given;
     if (!at || next_of(&at, 10) != getpid())
         return 0;
     number = (long)next_of(&at, 10);
@@ -621,6 +703,9 @@ static int take_over(char *at)
     for (int fd = 0; fd < NUMBERS; fd++)
         if (are_early[fd] && hold_at(fd) >= 0)
             take_real(fd);
+    given = next_words(&at);
+    if (is_watching())
+        check_words(at, given);
     return 1;
 }
 
@@ -628,6 +713,9 @@ static void end_at_last(void)
 {
     __cxa_atexit(end_at_exit, NULL, NULL);
     at_quick_exit(end_quickly);
+#ifdef __GLIBC__
+    on_exit(tell_at_exit, NULL);
+#endif
 }
 
 /* Begins where that was not done yet. Before the program has its environment, nothing is changed. */
@@ -658,6 +746,9 @@ static void prepare(void)
     if (how == ASKED)
         snprintf(socket_path, sizeof socket_path, "%s", socket_named);
     is_handed = how != OFF && take_over(getenv("FDREF_HANDED"));
+    if (getenv("FDREF_FAILED"))
+        note_wrong(getenv("FDREF_FAILED"), "has failed, and the kernel runs the program");
+    unsetenv("FDREF_FAILED");
     unsetenv("FDREF_HANDED");
     if (how == NATIVE && !is_handed)
         begin_natively();

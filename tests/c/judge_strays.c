@@ -1,7 +1,7 @@
 /* Does what the answers of no two systems agree on.
 
    usage: judge_strays call|answer|output|leaves-out|passes|spawns|starts|stdio|closes|streams|threads|looks|vforks
-                      |copies|cancels|modes|renames
+                      |copies|cancels|modes|renames|formats
 
    call        writes the number of its process into a file
    answer      changes a file by a system call that no library sees, and asks for the size of it
@@ -19,7 +19,8 @@
    copies      copies its file by copy_file_range, or by a read and a write where it cannot, as cat does
    cancels     cancels a thread that waits, and reads what it writes then
    modes       ends where the mode of its file is another one
-   renames     prints whether its file can be moved into a folder that it makes */
+   renames     prints whether its file can be moved into a folder that it makes
+   formats     prints a number by dprintf */
 
 #define _GNU_SOURCE
 
@@ -146,6 +147,8 @@ int main(int count, char **words)
         return 1;
     if (strcmp(what, "streams") == 0)
         streams();
+    if (strcmp(what, "formats") == 0 && dprintf(fd, "%d\n", length) < 2)
+        return 1;
     if (strcmp(what, "looks") == 0 && dup2(fd, 0) == 0 && fstat(fd, &told) == 0)
         printf("%d\n", told.st_mtime > 0);
     if (strcmp(what, "vforks") == 0 && vforks() != 0)

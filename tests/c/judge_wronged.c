@@ -94,6 +94,53 @@ static void break_pipe(void)
 }
 
 static int heard;
+static void hear_pipe(int number) { heard += number == SIGPIPE; }
+
+/* What a handler hears is told by nothing. */
+static void break_heard(void)
+{
+    struct sigaction action;
+    memset(&action, 0, sizeof action);
+    action.sa_handler = hear_pipe;
+    sigaction(SIGPIPE, &action, NULL);
+    write(ends[1], "x", 1);
+    close(ends[0]);
+    write(ends[1], "x", 1);
+    close(ends[1]);
+}
+
+/* A child exits with a status, and another one is killed, which their parent does not go by. */
+static void await(void)
+{
+    int status;
+    pid_t child = fork();
+    if (child == 0) {
+        read(ends[0], bytes, 1);
+        _exit(7);
+    }
+    write(ends[1], "x", 1);
+    waitpid(child, &status, 0);
+    close(ends[1]);
+}
+
+/* Runs itself again, by two functions, in children. */
+static char *own_path;
+static void run_again(void)
+{
+    char *words[] = {own_path, (char[]){"end"}, NULL};
+    if (fork() == 0) {
+        execl(own_path, own_path, "end", (char *)NULL);
+        _exit(9);
+    }
+    wait(NULL);
+    if (fork() == 0) {
+        execvp(own_path, words);
+        _exit(9);
+    }
+    wait(NULL);
+    write(ends[1], "x", 1);
+}
+
 static void hear(int number) { heard += number == SIGUSR1; }
 static void hear_more(int number, siginfo_t *info, void *context) { heard += info->si_signo == number && context; }
 
@@ -164,8 +211,13 @@ int main(int count, char **words)
         {"dup2-zero", copy_to},         {"pipe-turned", copy_to},
         {"pipe-broken", break_pipe},    {"early-signal", hear_signals},
         {"stat-size", look},            {"never-back", copy_to},
-        {"mask-kept", heed},
+        {"mask-kept", heed},            {"pipe-twice", break_heard},
+        {"pipe-unsent", break_heard},   {"pipe-blocked", break_heard},
+        {"wait-status", await},         {"wait-early", await},
+        {"wait-none", await},           {"exec-cut", run_again},
+        {"end", end},
     };
+    own_path = words[0];
     if (count != 2 || pipe(ends) != 0)
         return 1;
     for (size_t at = 0; at < sizeof ways / sizeof *ways; at++)

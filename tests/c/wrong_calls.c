@@ -14,7 +14,14 @@
    stat-size       stat tells a byte more
    early-signal    a read is EINTR though no handler has run
    pipe-broken     a write that is EPIPE ends a process that ignores SIGPIPE
-   mask-kept       a read leaves all signals blocked */
+   mask-kept       a read leaves all signals blocked
+   pipe-twice      a write that is EPIPE sends SIGPIPE once more
+   pipe-unsent     a write that is EPIPE sends no SIGPIPE
+   pipe-blocked    a write leaves SIGPIPE blocked
+   wait-status     waitpid tells that a child has exited with 0
+   wait-early      waitpid tells so at once
+   wait-none       waitpid is ECHILD
+   exec-cut        execl and execvp give one word alone */
 
 #define _GNU_SOURCE
 
@@ -27,6 +34,7 @@
 #include <string.h>
 #include <sys/stat.h>
 #include <sys/syscall.h>
+#include <sys/wait.h>
 #include <unistd.h>
 
 static int is_wrong(const char *how)
@@ -80,14 +88,82 @@ static void break_off(void)
     raise(SIGPIPE);
 }
 
+/* Blocks SIGPIPE, or unblocks it. */
+static void block(int how_to)
+{
+    sigset_t pipes;
+    sigemptyset(&pipes);
+    sigaddset(&pipes, SIGPIPE);
+    sigprocmask(how_to, &pipes, NULL);
+}
+
+/* Makes a write whose SIGPIPE is lost. */
+static ssize_t write_unsent(int fd, const void *data, size_t count)
+{
+    static const struct timespec none;
+    sigset_t pipes;
+    int error;
+    ssize_t done;
+    sigemptyset(&pipes);
+    sigaddset(&pipes, SIGPIPE);
+    block(SIG_BLOCK);
+    done = syscall(SYS_write, fd, data, count);
+    error = errno;
+    sigtimedwait(&pipes, NULL, &none);
+    block(SIG_UNBLOCK);
+    errno = error;
+    return done;
+}
+
 ssize_t write(int fd, const void *data, size_t count)
 {
-    ssize_t done = syscall(SYS_write, fd, data, count > 65536 && is_wrong("write-cut") ? 65536 : count);
+    ssize_t done;
+    if (is_wrong("pipe-unsent"))
+        return write_unsent(fd, data, count);
+    done = syscall(SYS_write, fd, data, count > 65536 && is_wrong("write-cut") ? 65536 : count);
     if (done < 0 && errno == EPIPE && is_wrong("pipe-broken")) {
         break_off();
         errno = EPIPE;
     }
+    if (done < 0 && errno == EPIPE && is_wrong("pipe-twice")) {
+        raise(SIGPIPE);
+        errno = EPIPE;
+    }
+    if (is_wrong("pipe-blocked"))
+        block(SIG_BLOCK);
     return done;
+}
+
+pid_t waitpid(pid_t which, int *status, int options)
+{
+    long done = which;
+    if (is_wrong("wait-none"))
+        errno = ECHILD;
+    if (is_wrong("wait-none"))
+        return -1;
+    if (!is_wrong("wait-early"))
+        done = syscall(SYS_wait4, which, status, options, NULL);
+    if (done > 0 && (is_wrong("wait-early") || is_wrong("wait-status")))
+        *status = 0;
+    return (pid_t)done;
+}
+
+int execvp(const char *path, char *const list[])
+{
+    char *one[2] = {list[0], NULL};
+    return execve(path, is_wrong("exec-cut") ? one : list, environ);
+}
+
+int execl(const char *path, const char *word, ...)
+{
+    char *list[8];
+    va_list values;
+    va_start(values, word);
+    memcpy(&list[0], &word, sizeof word);
+    for (int at = 0; at < 7 && list[at];)
+        list[++at] = va_arg(values, char *);
+    va_end(values);
+    return execvp(path, list);
 }
 
 int close(int fd) { return is_wrong("close-kept") ? 0 : (int)syscall(SYS_close, fd); }

@@ -1,0 +1,178 @@
+/* watch.h: a part of fdref_preload.c. What a native call does beside its answer, which no line tells: to the signals
+   that are blocked, and how often SIGPIPE comes with a write. */
+
+/* ---- the signals that are blocked */
+
+/* How many handlers that this library calls have run in this thread. */
+static __thread unsigned runs;
+
+/* What was blocked before a native call that may wait, and how many handlers had run. */
+struct masked {
+    int is_known;
+    unsigned runs;
+    sigset_t signals;
+};
+
+static struct masked before_call(void)
+{
+    struct masked before = {is_watching(), runs, {{0}}};
+    if (before.is_known)
+        before.is_known = pthread_sigmask(SIG_BLOCK, NULL, &before.signals) == 0;
+    return before;
+}
+
+static int are_same(const sigset_t *one, const sigset_t *other)
+{
+    int number = 1;
+    while (number < NSIG && sigismember(one, number) == sigismember(other, number))
+        number++;
+    return number == NSIG;
+}
+
+/* A handler may change what is blocked, and a call may not. */
+static void after_call(const struct masked *before, const char *name)
+{
+    int error = errno;
+    sigset_t now;
+    if (before->is_known && before->runs == runs && pthread_sigmask(SIG_BLOCK, NULL, &now) == 0
+        && !are_same(&before->signals, &now))
+        note_wrong(name, "has changed which signals are blocked");
+    errno = error;
+}
+
+/* ---- SIGPIPE
+
+   The line of a write comes before what its SIGPIPE does. So a process of one thread counts the signal meanwhile, and
+   sends it again after that; what is blocked stays as it is. Another process has it blocked. */
+
+enum keeps { KEEPS_NONE, COUNTS, BLOCKS };
+struct keeping {
+    enum keeps keeps;
+    int came, others, is_blocked, is_ignored;
+    unsigned runs;
+    struct sigaction action;
+};
+static __thread struct keeping *keeper;
+
+/* The system's sigaction, as it is behind that of this library. */
+static int system_sigaction(const struct sigaction *to, struct sigaction *was)
+{
+    static int (*next)(int, const struct sigaction *, struct sigaction *);
+    int done;
+    find(&next, "sigaction");
+    is_setting = 1;
+    done = next(SIGPIPE, to, was);
+    is_setting = 0;
+    return done;
+}
+
+static int has_pending(int number)
+{
+    sigset_t pending;
+    return sigpending(&pending) == 0 && sigismember(&pending, number) == 1;
+}
+
+static void keep_pipe(int number, siginfo_t *info, void *context)
+{
+    (void)context;
+    if (!keeper)
+        return;
+    keeper->came++;
+    if (info->si_code <= 0 && info->si_pid == own_pid)
+        return;
+    keeper->others++;
+    if (passed_on[number].plain || passed_on[number].more)
+        note_run(number);
+}
+
+/* Counts the signal from now on. A call that waits ends by it as it would otherwise. */
+static void count_pipes(struct keeping *it)
+{
+    struct sigaction own;
+    memset(&own, 0, sizeof own);
+    own.sa_flags = SA_SIGINFO | (it->action.sa_flags & (SA_RESTART | SA_ONSTACK));
+    own.sa_sigaction = keep_pipe;
+    it->keeps = system_sigaction(&own, NULL) == 0 ? COUNTS : KEEPS_NONE;
+    keeper = it;
+}
+
+/* A handler of another signal finds this one as the program has set it. */
+static struct keeping *pause_keeping(void)
+{
+    struct keeping *it = keeper;
+    keeper = NULL;
+    if (it && it->keeps == COUNTS)
+        system_sigaction(&it->action, NULL);
+    return it;
+}
+
+static void go_on_keeping(struct keeping *it)
+{
+    int error = errno;
+    if (it && it->keeps == COUNTS && system_sigaction(NULL, &it->action) == 0 && it->action.sa_handler != SIG_IGN)
+        count_pipes(it);
+    else if (it)
+        it->keeps = KEEPS_NONE;
+    errno = error;
+}
+
+static void block_pipes(int how_to)
+{
+    sigset_t pipes;
+    sigemptyset(&pipes);
+    sigaddset(&pipes, SIGPIPE);
+    pthread_sigmask(how_to, &pipes, NULL);
+}
+
+/* Keeps SIGPIPE from the program while a write is made. */
+static void keep_pipes(struct keeping *it)
+{
+    sigset_t signals;
+    memset(it, 0, sizeof *it);
+    it->runs = runs;
+    pthread_sigmask(SIG_BLOCK, NULL, &signals);
+    it->is_blocked = sigismember(&signals, SIGPIPE) == 1;
+    it->is_ignored = system_sigaction(NULL, &it->action) == 0 && it->action.sa_handler == SIG_IGN;
+    if (it->is_blocked || it->is_ignored || keeper)
+        return;
+    if (is_watching() && is_alone()) {
+        count_pipes(it);
+        return;
+    }
+    it->keeps = BLOCKS;
+    block_pipes(SIG_BLOCK);
+}
+
+/* Notes that SIGPIPE has not come with EPIPE, or oftener than once, or without that. A write that has moved a part may
+   end by it, too. */
+static void note_pipes(const struct keeping *it, const char *name, int is_due, int may_come)
+{
+    char text[80];
+    int came = it->came - it->others + (it->keeps == COUNTS && has_pending(SIGPIPE));
+    if (!is_watching() || it->runs != runs || it->is_ignored)
+        return;
+    if (it->keeps == COUNTS && (came < is_due || came > may_come)) {
+        snprintf(text, sizeof text, "SIGPIPE has come %d times, where EPIPE has come %d times", came, is_due);
+        note_wrong(name, text);
+    } else if (it->keeps != COUNTS && (it->is_blocked || it->keeps == BLOCKS) && is_due && !has_pending(SIGPIPE)) {
+        note_wrong(name, "SIGPIPE has not come with EPIPE");
+    }
+}
+
+/* Lets SIGPIPE come again, as often as it came. */
+static void let_pipes(struct keeping *it, const char *name, int64_t given, uint64_t count)
+{
+    struct sigaction now;
+    int error = errno, is_due = given < 0 && error == EPIPE;
+    note_pipes(it, name, is_due, is_due || (given >= 0 && (uint64_t)given < count));
+    if (it->keeps == COUNTS) {
+        keeper = NULL;
+        if (system_sigaction(NULL, &now) == 0 && now.sa_sigaction == keep_pipe)
+            system_sigaction(&it->action, NULL);
+        for (int at = 0; at < it->came; at++)
+            system_syscall(SYS_tgkill, (long)getpid(), system_syscall(SYS_gettid), (long)SIGPIPE);
+    } else if (it->keeps == BLOCKS) {
+        block_pipes(SIG_UNBLOCK);
+    }
+    errno = error;
+}
