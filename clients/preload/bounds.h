@@ -91,6 +91,7 @@ static int keep_numbers(int is_same)
 /* That of the size of files holds for real ones alone. */
 static void limit_size(void)
 {
+    is_size_limited = 1;
     goes_past('!', "limit", "RLIMIT_FSIZE", NULL);
     end_strictly("setrlimit of RLIMIT_FSIZE");
 }

@@ -44,8 +44,9 @@
                         p0 ran 14` before.
 
    Without the first two nothing is changed, nor before a program has its environment, as in .preinit_array. Where there
-   is no answer (no server, no place at it for one more process, a run that is full, a lost connection), and where a
-   limit of the size of files cuts the log, that is told on standard error, and the program ends with status 124.
+   is no answer (no server, no place at it for one more process, a run that is full, a lost connection), and where a hard
+   limit of the size of files cuts the log, that is told on standard error, and the program ends with status 124. A soft
+   one is lifted while this library writes.
 
    Names. fdref has one folder. A name without `/`, or with only `./` before it, is asked of fdref, whatever the working
    directory is. Every other path, `.` and `..` go to the kernel, and a link or a rename between the two is EXDEV. So

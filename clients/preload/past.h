@@ -819,14 +819,18 @@ int fexecve(int fd, char *const list[], char *const env[])
 #define LISTS(name, how_found) \
     int name(const char *path, const char *word, ...) \
     { \
+        static int is_noted; \
         char *list[LIST_MOST], *const *env = environ; \
         size_t count = 0; \
+        prepare(); \
         va_list values; \
         va_start(values, word); \
         for (list[0] = bytes_of(word); list[count] && count + 1 < LIST_MOST;) \
             list[++count] = va_arg(values, char *); \
         env = #name[4] && #name[5] == 'e' ? va_arg(values, char *const *) : env; \
         va_end(values); \
+        if (count >= LISTED_MOST) \
+            answers_itself("an execl of more than 31 words", &is_noted); \
         return list[count] ? (int)fails(E2BIG) : run(how_found(#name, path), list, env); \
     }
 enum { LIST_MOST = 4096 };

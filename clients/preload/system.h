@@ -164,11 +164,29 @@ static void end_quiet(struct quiet before)
     pthread_sigmask(SIG_SETMASK, &before.signals, NULL);
 }
 
-/* Appends to a file of this library. */
+/* Whether the program limits the size of files. */
+static int is_size_limited;
+
+/* Lifts that limit as far as it can be, and gives what it was. */
+static struct rlimit lift_size(void)
+{
+    struct rlimit was, most = {RLIM_INFINITY, RLIM_INFINITY};
+    system_getrlimit(RLIMIT_FSIZE, &was);
+    if (system_setrlimit(RLIMIT_FSIZE, &most) != 0) {
+        most.rlim_cur = most.rlim_max = was.rlim_max;
+        system_setrlimit(RLIMIT_FSIZE, &most);
+    }
+    return was;
+}
+
+/* Appends to a file of this library, which no limit of the program is for. */
 static void append(int file, const char *what, const char *text, size_t size)
 {
     struct quiet before = be_quiet();
-    int error = errno;
+    int error = errno, is_lifted = is_size_limited;
+    struct rlimit was = {0, 0};
+    if (is_lifted)
+        was = lift_size();
     while (size > 0) {
         ssize_t some = system_write(file, text, size);
         if (some < 0 && errno == EFBIG)
@@ -178,6 +196,8 @@ static void append(int file, const char *what, const char *text, size_t size)
         text += some > 0 ? some : 0;
         size -= some > 0 ? (size_t)some : 0;
     }
+    if (is_lifted)
+        system_setrlimit(RLIMIT_FSIZE, &was);
     errno = error;
     end_quiet(before);
 }

@@ -723,6 +723,7 @@ static void prepare(void)
 {
     const char *socket_named, *log_named, *past_named, *strict, *starts;
     int error = errno, is_handed;
+    struct rlimit size;
     if (how != UNKNOWN)
         return;
     find_all();
@@ -737,6 +738,7 @@ static void prepare(void)
     is_strict = strict && strcmp(strict, "1") == 0;
     tells_starts = starts && strcmp(starts, "1") == 0;
     how = socket_named ? ASKED : log_named ? NATIVE : OFF;
+    is_size_limited = system_getrlimit(RLIMIT_FSIZE, &size) == 0 && size.rlim_cur != RLIM_INFINITY;
     if (log_named)
         log_file = opened_log(log_named);
     if (how == NATIVE)

@@ -2,6 +2,7 @@
 
    usage: judge_strays call|answer|output|leaves-out|passes|spawns|starts|stdio|closes|streams|threads|looks|vforks
                       |copies|cancels|modes|renames|formats
+                      |limited
 
    call        writes the number of its process into a file
    answer      changes a file by a system call that no library sees, and asks for the size of it
@@ -20,7 +21,8 @@
    cancels     cancels a thread that waits, and reads what it writes then
    modes       ends where the mode of its file is another one
    renames     prints whether its file can be moved into a folder that it makes
-   formats     prints a number by dprintf */
+   formats     prints a number by dprintf
+   limited     writes to its file under a limit of its size that is smaller than any log */
 
 #define _GNU_SOURCE
 
@@ -29,6 +31,7 @@
 #include <stdio.h>
 #include <stdlib.h>
 #include <string.h>
+#include <sys/resource.h>
 #include <sys/stat.h>
 #include <sys/syscall.h>
 #include <sys/wait.h>
@@ -117,6 +120,15 @@ static int vforks(void)
     return child < 0 || waitpid(child, &status, 0) != child || status != 0;
 }
 
+static int is_limited(int fd)
+{
+    struct rlimit limit;
+    if (getrlimit(RLIMIT_FSIZE, &limit) != 0)
+        return 1;
+    limit.rlim_cur = 100;
+    return setrlimit(RLIMIT_FSIZE, &limit) != 0 || write(fd, "abc", 3) != 3 || lseek(fd, 0, SEEK_SET) != 0;
+}
+
 static int fails_with(const char *what, int fd)
 {
     return (strcmp(what, "passes") == 0 && passes(fd) != 0) || (strcmp(what, "copies") == 0 && copies(fd) != 0)
@@ -147,6 +159,8 @@ int main(int count, char **words)
         return 1;
     if (strcmp(what, "streams") == 0)
         streams();
+    if (strcmp(what, "limited") == 0 && is_limited(fd))
+        return 1;
     if (strcmp(what, "formats") == 0 && dprintf(fd, "%d\n", length) < 2)
         return 1;
     if (strcmp(what, "looks") == 0 && dup2(fd, 0) == 0 && fstat(fd, &told) == 0)

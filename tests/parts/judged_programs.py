@@ -158,6 +158,17 @@ PROGRAMS = [
     Judged("replaces", (), 0, (WELL, "19 calls of 1 process: no answer differs", "audit: legal"), ("--strict",)),
     Judged(
         "strays",
+        ("limited",),
+        0,
+        (
+            WELL,
+            "5 calls of 1 process: no answer differs",
+            "past fdref: 1 limit (setrlimit of RLIMIT_FSIZE)",
+            "verdict: agreement in what was compared, which is not all: no answer differs",
+        ),
+    ),
+    Judged(
+        "strays",
         ("formats",),
         0,
         (
