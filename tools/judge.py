@@ -563,7 +563,7 @@ class Verdict:
         compared = self.compared
         is_clear = compared.is_one() and not compared.findings and not compared.has_appended()
         apart = past.looked_apart(self.native, self.past) if is_clear and not past.doubt(self.past) else None
-        return [f"stat tells otherwise: system: {apart[0]}, fdref: {apart[1]}"] if apart else []
+        return [f"{apart[0]} tells otherwise: system: {apart[1]}, fdref: {apart[2]}"] if apart else []
 
     def wrong_signals(self) -> list[str]:
         """What is said of signals that have ended a process on the system which ignores them, and of SIGPIPE where it

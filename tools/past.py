@@ -253,15 +253,16 @@ def told_wrong(native: list[Past]) -> list[str]:
     return [f"system: p{it.number} {it.call}: {it.name}" for it in native if it.kind == WRONG]
 
 
-def looked_apart(native: list[Past], every: list[Past]) -> tuple[str, str] | None:
-    """The first look of a process at a name in which the two runs tell something else of a file, as long as both look at
-    the same names. Errors of the profile alone are none."""
-    both = ([it.name for it in notes if it.kind == LOOK and it.number == 0] for notes in (native, every))
+def looked_apart(native: list[Past], every: list[Past]) -> tuple[str, str, str] | None:
+    """The first look of a process at a name in which the two runs tell something else of a file, with its call, as long
+    as both look at the same names. Errors of the profile alone are none."""
+    both = ([it for it in notes if it.kind == LOOK and it.number == 0] for notes in (native, every))
     for system, fdref in zip(*both, strict=False):
-        if system.split(" = ")[0] != fdref.split(" = ")[0]:
+        if (system.call, system.name.split(" = ")[0]) != (fdref.call, fdref.name.split(" = ")[0]):
             return None
-        if system != fdref and not any(fdref.endswith(f" = error {number}") for number in OWN_ERRORS):
-            return system, fdref
+        is_own = any(fdref.name.endswith(f" = error {number}") for number in OWN_ERRORS)
+        if system.name != fdref.name and not is_own:
+            return system.call, system.name, fdref.name
     return None
 
 

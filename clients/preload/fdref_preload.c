@@ -527,6 +527,7 @@ struct moving {
     char *bytes;
     const struct iovec *parts;
     struct keeping pipes;
+    struct beyond beyond;
 };
 
 static int is_write(int kind) { return kind == FDREF_WRITE || kind == FDREF_PWRITE; }
@@ -621,12 +622,16 @@ static int64_t asked_transfer(struct fdref_act act, char *bytes)
 /* A transfer of the system that is to be logged. */
 static void begin_moving(struct moving *it)
 {
+    it->beyond.size = 0;
     if (is_write(it->going.act.kind))
         keep_pipes(&it->pipes);
+    else if (!it->parts)
+        look_beyond(&it->beyond, it->bytes, it->going.act.count);
 }
 
 static void end_moving(struct moving *it, int64_t given)
 {
+    check_beyond(&it->beyond, words[it->going.act.kind - FDREF_OPEN]);
     if (is_write(it->going.act.kind))
         let_pipes(&it->pipes, words[it->going.act.kind - FDREF_OPEN], given, it->going.act.count);
 }
@@ -651,14 +656,6 @@ static ssize_t moved(struct moving *it, ssize_t given)
     ALONE(in_pieces(it->going.act, it->bytes, given));
     end_moving(it, given);
     return given;
-}
-
-/* What is written is only read, though the type of a transfer does not say so. */
-static char *bytes_of(const void *data)
-{
-    char *bytes;
-    memcpy(&bytes, &data, sizeof bytes);
-    return bytes;
 }
 
 #define MOVES(name, parameters, words, act_of, data) \
@@ -1005,6 +1002,16 @@ static int64_t gone_to(const struct going *it, int64_t given)
     GOES(int, name, (int fd, int to), (fd, to), is_duplicated_to(&going, fd, to, 0), gone_to)
 DUPLICATES_TO(dup2)
 
+/* A native dup3 of one number twice, or with other flags, which is EINVAL, or EBADF where both are due. */
+static int refused_dup3(int given)
+{
+    int error = errno;
+    if (given != -1 || (error != EINVAL && error != EBADF))
+        note_wrong("dup3", "has not refused one number twice, or other flags");
+    errno = error;
+    return given;
+}
+
 int dup3(int fd, int to, int flags)
 {
     NEXT_OF(dup3);
@@ -1012,7 +1019,7 @@ int dup3(int fd, int to, int flags)
     int is_refused = fd == to || (flags & ~O_CLOEXEC) != 0;
     prepare();
     if (is_refused)
-        return how == ASKED ? (int)fails(EINVAL) : next(fd, to, flags);
+        return how == ASKED ? (int)fails(EINVAL) : refused_dup3(next(fd, to, flags));
     if (is_duplicated_to(&going, fd, to, flags))
         return (int)going.done;
     if (going.way == NOTE)

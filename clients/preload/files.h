@@ -106,18 +106,41 @@ LOOKS(lstat, (const char *name, struct stat *to), (name, to), AT_FDCWD, 0)
 LOOKS(fstatat, (int folder, const char *name, struct stat *to, int flags), (folder, name, to, flags), folder, flags)
 LOOKS_AT(fstat, (int fd, struct stat *to), (fd, to))
 
-static int is_accessed(struct going *it, int folder, const char *name, int mode)
+/* Notes whether a name is there, as access has told; what refuses a right says that it is. */
+static int64_t gone_looking(const struct going *it, int64_t given)
+{
+    (void)it;
+    char text[FDREF_NAME_MOST + 40];
+    int error = errno;
+    if (looked_at && !is_behind) {
+        if (given == 0 || error == EACCES || error == EROFS || error == ETXTBSY)
+            snprintf(text, sizeof text, "%s = there", looked_at);
+        else
+            snprintf(text, sizeof text, "%s = error %d", looked_at, error);
+        notes("look", "access", text);
+    }
+    looked_at = NULL;
+    errno = error;
+    return given;
+}
+
+static int is_accessed(struct going *it, int folder, const char *name, int mode, int flags)
 {
     struct file file;
-    int done = look("access", folder, name, 0, &file);
+    int done = look("access", folder, name, 0, &file), is_known = (mode & ~(R_OK | W_OK | X_OK)) == 0;
+    /* other modes and flags may be refused */
+    looked_at = is_known && (flags & ~(AT_EACCESS | AT_SYMLINK_NOFOLLOW)) == 0 ? looked_at : NULL;
     it->way = PASS;
     it->done = done == 0 && (mode & X_OK) != 0 ? fails(EACCES) : done;
+    if (done <= 0)
+        gone_looking(it, it->done);
     return done <= 0;
 }
 
-GOES(int, access, (const char *name, int mode), (name, mode), is_accessed(&going, AT_FDCWD, name, mode), gone_unseen)
+GOES(int, access, (const char *name, int mode), (name, mode), is_accessed(&going, AT_FDCWD, name, mode, 0),
+     gone_looking)
 GOES(int, faccessat, (int folder, const char *name, int mode, int flags), (folder, name, mode, flags),
-     is_accessed(&going, folder, name, mode), gone_unseen)
+     is_accessed(&going, folder, name, mode, flags), gone_looking)
 
 /* ---- what is asked of a descriptor */
 
@@ -186,7 +209,7 @@ static int64_t flag_noted(int fd, int command, int argument, int given)
 {
     char text[40];
     int error = errno, is_set = command == F_SETFD, is_fault = given < 0 && errno != EBADF;
-    if (is_alone() && (is_fault || (given < 0 ? -1 : given & FD_CLOEXEC) != flag_of(fd, command))) {
+    if (is_alone() && !is_doubtful && (is_fault || (given < 0 ? -1 : given & FD_CLOEXEC) != flag_of(fd, command))) {
         snprintf(text, sizeof text, "%d = %s%d", fd, given < 0 ? "error " : "", given < 0 ? error : given);
         note_past('!', (uint64_t)log_length(), native_number, "cloexec", is_set ? "F_SETFD" : "F_GETFD", text);
     }

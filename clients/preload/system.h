@@ -167,15 +167,14 @@ static void end_quiet(struct quiet before)
 /* Whether the program limits the size of files. */
 static int is_size_limited;
 
-/* Lifts that limit as far as it can be, and gives what it was. */
+/* Lifts that limit up to the hard one, and gives what it was. */
 static struct rlimit lift_size(void)
 {
-    struct rlimit was, most = {RLIM_INFINITY, RLIM_INFINITY};
+    struct rlimit was, most;
     system_getrlimit(RLIMIT_FSIZE, &was);
-    if (system_setrlimit(RLIMIT_FSIZE, &most) != 0) {
-        most.rlim_cur = most.rlim_max = was.rlim_max;
-        system_setrlimit(RLIMIT_FSIZE, &most);
-    }
+    most = was;
+    most.rlim_cur = was.rlim_max;
+    system_setrlimit(RLIMIT_FSIZE, &most);
     return was;
 }
 

@@ -145,14 +145,24 @@ static int64_t fails(int number)
     return -1;
 }
 
-/* Whether this process certainly has one thread, so that nothing comes between a call of the system and a look. */
+/* Whether this process certainly has one thread, so that nothing comes between a call of the system and a look: the C
+   library says so, or the system lists no other one any more. */
 static int is_alone(void)
 {
+    struct stat tasks;
+    int error = errno, is_one = 0;
 #if defined __GLIBC__ && __GLIBC_PREREQ(2, 32)
-    return __libc_single_threaded;
-#else
-    return 0;
+    if (__libc_single_threaded)
+        return 1;
 #endif
+#ifdef SYS_newfstatat
+    /* a folder has a link by its name, one by itself, and one by each folder in it */
+    is_one = system_syscall(SYS_newfstatat, (long)AT_FDCWD, "/proc/self/task", &tasks, 0L) == 0 && tasks.st_nlink == 3;
+#else
+    (void)tasks;
+#endif
+    errno = error;
+    return is_one;
 }
 
 /* ---- the table */
@@ -195,10 +205,14 @@ static int any_real(void)
     return at < NUMBERS ? at : -1;
 }
 
+/* Whether another thread may have made a native descriptor another one beside this table. */
+static int is_doubtful;
+
 static void take(int fd, struct slot slot, int is_cloexec)
 {
     if (fd < 0 || fd >= NUMBERS)
         return;
+    is_doubtful = is_doubtful || (how == NATIVE && !is_alone());
     slots[fd] = slot;
     slots[fd].is_cloexec = is_cloexec;
     known[fd] = slot.held != FREE;

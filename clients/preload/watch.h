@@ -176,3 +176,70 @@ static void let_pipes(struct keeping *it, const char *name, int64_t given, uint6
     }
     errno = error;
 }
+
+/* What is written is only read, though the type of a transfer does not say so. */
+static char *bytes_of(const void *data)
+{
+    char *bytes;
+    memcpy(&bytes, &data, sizeof bytes);
+    return bytes;
+}
+
+/* ---- what is beyond the buffer of a read
+
+   It is looked at by the kernel, since it may not be there, and only in the page of the last byte. Another process may
+   change it where memory is shared. */
+
+enum { BEYOND_MOST = 16, PAGE = 4096 };
+struct beyond {
+    size_t size;
+    unsigned runs;
+    const char *at;
+    char was[BEYOND_MOST];
+};
+
+static size_t copied(char *to, const char *from, size_t size)
+{
+    struct iovec here = {to, size}, there = {bytes_of(from), size};
+    long some = system_syscall(SYS_process_vm_readv, (long)getpid(), &here, 1L, &there, 1L, 0L);
+    return some == (long)size ? size : 0;
+}
+
+static void look_beyond(struct beyond *it, const char *bytes, uint64_t count)
+{
+    int error = errno;
+    uintptr_t end = (uintptr_t)bytes + count;
+    size_t rest = (size_t)(PAGE - end % PAGE);
+    it->at = bytes + count;
+    it->runs = runs;
+    it->size = 0;
+    if (is_watching() && is_alone() && count > 0 && count < PAGE && end % PAGE != 0)
+        it->size = copied(it->was, it->at, rest < BEYOND_MOST ? rest : BEYOND_MOST);
+    errno = error;
+}
+
+/* Whether an address is in memory that others may change, or it is not known. */
+static int is_shared_memory(const char *at)
+{
+    char line_of_maps[600], kind[8];
+    unsigned long first, last;
+    int is_private = 0;
+    FILE *maps = fopen("/proc/self/maps", "re");
+    while (maps && fgets(line_of_maps, sizeof line_of_maps, maps))
+        if (sscanf(line_of_maps, "%lx-%lx %7s", &first, &last, kind) == 3 && (uintptr_t)at >= first
+            && (uintptr_t)at < last)
+            is_private = kind[3] == 'p';
+    if (maps)
+        fclose(maps);
+    return !is_private;
+}
+
+static void check_beyond(const struct beyond *it, const char *name)
+{
+    char now[BEYOND_MOST];
+    int error = errno;
+    if (it->size > 0 && it->runs == runs && copied(now, it->at, it->size) > 0 && memcmp(now, it->was, it->size) != 0
+        && !is_shared_memory(it->at))
+        note_wrong(name, "has changed what is beyond its buffer");
+    errno = error;
+}

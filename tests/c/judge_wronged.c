@@ -2,9 +2,10 @@
 
    usage: judge_wronged WAY */
 
-#define _DEFAULT_SOURCE
+#define _GNU_SOURCE
 
 #include <fcntl.h>
+#include <pthread.h>
 #include <signal.h>
 #include <stdio.h>
 #include <stdlib.h>
@@ -141,6 +142,38 @@ static void run_again(void)
     write(ends[1], "x", 1);
 }
 
+static void copy_same(void) { dup3(ends[0], ends[0], 0); }
+
+static void ask(void)
+{
+    close(open("a", O_RDWR | O_CREAT, 0600));
+    access("a", R_OK | W_OK);
+    access("b", F_OK);
+}
+
+/* The buffer is not the whole array. */
+static void take_few(void)
+{
+    write(ends[1], "xyz", 3);
+    read(ends[0], bytes, 2);
+}
+
+static void *write_one(void *data)
+{
+    write(ends[1], "x", 1);
+    return data;
+}
+
+static void keep_flags_after_thread(void)
+{
+    pthread_t thread;
+    if (pthread_create(&thread, NULL, write_one, NULL) != 0 || pthread_join(thread, NULL) != 0)
+        exit(1);
+    usleep(100000);
+    fcntl(ends[0], F_SETFD, FD_CLOEXEC);
+    fcntl(ends[0], F_GETFD);
+}
+
 static void hear(int number) { heard += number == SIGUSR1; }
 static void hear_more(int number, siginfo_t *info, void *context) { heard += info->si_signo == number && context; }
 
@@ -215,7 +248,9 @@ int main(int count, char **words)
         {"pipe-unsent", break_heard},   {"pipe-blocked", break_heard},
         {"wait-status", await},         {"wait-early", await},
         {"wait-none", await},           {"exec-cut", run_again},
-        {"end", end},
+        {"end", end},                   {"dup3-same", copy_same},
+        {"access-refused", ask},        {"read-beyond", take_few},
+        {"cloexec-thread", keep_flags_after_thread},
     };
     own_path = words[0];
     if (count != 2 || pipe(ends) != 0)

@@ -21,7 +21,11 @@
    wait-status     waitpid tells that a child has exited with 0
    wait-early      waitpid tells so at once
    wait-none       waitpid is ECHILD
-   exec-cut        execl and execvp give one word alone */
+   exec-cut        execl and execvp give one word alone
+   dup3-same       dup3 of one number twice gives it
+   access-refused  access is ENOENT
+   read-beyond     a read changes a byte beyond its buffer
+   cloexec-thread  F_GETFD gives 0 */
 
 #define _GNU_SOURCE
 
@@ -54,6 +58,8 @@ ssize_t read(int fd, void *to, size_t count)
     ssize_t done = is_wrong("early-signal") ? -1 : syscall(SYS_read, fd, to, count);
     if (is_wrong("early-signal"))
         errno = EINTR;
+    if (done > 0 && is_wrong("read-beyond"))
+        ((char *)to)[count] ^= 1;
     if (done != 0 || count == 0 || syscall(SYS_lseek, fd, 0L, SEEK_CUR) >= 0 || !is_wrong("dry-end"))
         return done;
     errno = EAGAIN;
@@ -67,7 +73,7 @@ int fcntl(int fd, int command, ...)
     va_start(values, command);
     argument = va_arg(values, long);
     va_end(values);
-    if (command == F_GETFD && is_wrong("cloexec-lost"))
+    if (command == F_GETFD && (is_wrong("cloexec-lost") || is_wrong("cloexec-thread")))
         return 0;
     if (command == F_DUPFD && is_wrong("dupfd-refused")) {
         errno = EINVAL;
@@ -172,6 +178,18 @@ int dup2(int fd, int to)
 {
     long done = fd == to ? to : syscall(SYS_dup3, fd, to, 0);
     return is_wrong("dup2-zero") ? 0 : (int)done;
+}
+
+int dup3(int fd, int to, int flags)
+{
+    return fd == to && is_wrong("dup3-same") ? to : (int)syscall(SYS_dup3, fd, to, flags);
+}
+
+int access(const char *name, int mode)
+{
+    if (is_wrong("access-refused"))
+        errno = ENOENT;
+    return is_wrong("access-refused") ? -1 : (int)syscall(SYS_faccessat, AT_FDCWD, name, mode);
 }
 
 int pipe(int ends[2])

@@ -683,6 +683,10 @@ WRONGED = {
     "wait-early": f"{OF_SYSTEM}p0 waitpid: has told the end of a child that is still there",
     "wait-none": f"{OF_SYSTEM}p0 waitpid: has failed, and there is such a child",
     "exec-cut": f"{OF_SYSTEM}p1 execl: has given a program other words",
+    "dup3-same": f"{OF_SYSTEM}p0 dup3: has not refused one number twice, or other flags",
+    "access-refused": "verdict: a difference: access tells otherwise: system: a = error 2, fdref: a = there",
+    "read-beyond": f"{OF_SYSTEM}p0 read: has changed what is beyond its buffer",
+    "cloexec-thread": "1 answer about FD_CLOEXEC differs from what was set: system: p0 fcntl F_GETFD 3 = 0",
 }
 
 
