@@ -93,7 +93,7 @@ import tempfile
 import termios
 import time
 import traceback
-from collections.abc import Callable, Sequence
+from collections.abc import Callable, Mapping, Sequence
 from functools import partial
 from pathlib import Path
 from types import FrameType, TracebackType
@@ -101,7 +101,7 @@ from typing import NamedTuple, Self
 
 from support import plain_model
 from support.auditing import Frames
-from support.call_logs import Log, Way
+from support.call_logs import Log, Way, is_wait, word_of
 from support.commands import add_capacity, add_program, capacity_words, program_of
 from support.counting import Failure
 from support.ordering import ROOMY
@@ -179,6 +179,12 @@ BY_ORDER = "the order of the calls"
 BAD_ADDRESS = "a bad address, which is no EFAULT with the shim"
 UNTOLD = f"{causes.NUMBERS}, or an answer that has no line, as those of stat, access, truncate and fsync"
 OTHER_WAY = "the calls differ, not the answers"
+# The functions that make a call which may wait.
+SAME_CALLS = {
+    "open": ("open", "openat", "creat", "open64", "openat64", "creat64"),
+    "read": ("read", "readv", "__read_c"),
+    "write": ("write", "writev", "dprintf", "vdprintf"),
+}
 # The statuses of what a timer ends.
 TIMED = (-signal.SIGALRM, -signal.SIGVTALRM, -signal.SIGPROF)
 
@@ -336,6 +342,19 @@ class Both(NamedTuple):
     still: str = ""
     # what was noted of the run on the system beside its calls
     system_past: bytes = b""
+    # the calls in which its processes were when it was killed, by their numbers
+    inside: Mapping[int, str] = {}
+
+
+# What stands at the end of what native processes share: of each the number of one more than its own, and its call.
+INSIDE = struct.Struct("@Q8s")
+INSIDE_MOST = 1024
+
+
+def inside_of(shared: bytes) -> dict[int, str]:
+    """The calls in which native processes are, by their numbers."""
+    found = INSIDE.iter_unpack(shared[-INSIDE.size * INSIDE_MOST :])
+    return {number - 1: name.rstrip(b"\0").decode("ascii", "replace") for number, name in found if number}
 
 
 class Looker:
@@ -455,10 +474,11 @@ class Job:
             lost = f"the library ended the program: {said[-1].decode('utf-8', 'replace')}"
             why = [TOLD_LOST] if said[-1].startswith(IS_LOST) else []
             raise NotJudged("; ".join([lost, *why, *past.told_past(past.past_of(self.past("fdref")))]))
-        system, system_log = self.ran("system")
-        return Both(
-            system, fdref, system_log, fdref_log, trace, self.past("fdref"), still.told, self.past("system")
-        )
+        shared = Path(self.folder, "shared")
+        system, system_log = self.ran("system", FDREF_SHARED=str(shared))
+        inside = inside_of(shared.read_bytes()) if system.status is None and shared.exists() else {}
+        noted = self.past("fdref"), still.told, self.past("system")
+        return Both(system, fdref, system_log, fdref_log, trace, *noted, inside)
 
     def audited(self) -> str:
         """What the audit says of the trace."""
@@ -505,6 +525,7 @@ class Verdict:
         self.flags, self.flags_by = past.flags(self.native, self.past)
         self.signals = self.wrong_signals()
         self.looks = self.looked_apart()
+        self.stuck = self.stuck_calls()
         self.crashes = [CRASHES[number] for number in past.signals(self.past) if number in CRASHES]
         if not self.compared.fdref.total() and not self.compared.system.total():
             told = told_started(self.compared.started) + past.told_past(self.past) + told_fault(both.fdref)
@@ -555,6 +576,7 @@ class Verdict:
     def differs(self) -> bool:
         """Whether an answer differs that neither a reason nor an order of the calls explains."""
         is_told = bool(self.flags and not self.flags_by) or bool(self.signals or self.looks)
+        is_told = is_told or (bool(self.stuck) and self.is_stuck_alone())
         return is_told or self.differs_in_calls()
 
     def looked_apart(self) -> list[str]:
@@ -564,6 +586,28 @@ class Verdict:
         is_clear = compared.is_one() and not compared.findings and not compared.has_appended()
         apart = past.looked_apart(self.native, self.past) if is_clear and not past.doubt(self.past) else None
         return [f"{apart[0]} tells otherwise: system: {apart[1]}, fdref: {apart[2]}"] if apart else []
+
+    def stuck_calls(self) -> list[Parting]:
+        """The calls in which processes of the system were when it was killed, and which fdref has answered."""
+        lefts = [it for it in self.compared.partings if not it.system and it.fdref and it.fdref.place.isdigit()]
+        numbers = self.compared.system.numbers
+        is_in = {way: self.both.inside.get(numbers[way], "") for way in numbers}
+        return [it for it in lefts if it.fdref and is_in.get(it.way, "") in SAME_CALLS.get(word_of(it.fdref), ())]
+
+    def is_stuck_alone(self) -> bool:
+        """Whether the first of these calls had to come back: all that was answered with fdref before it was so on the
+        system, and nothing else, in one thread of each process; and all have gone that had with fdref."""
+        compared, calls = self.compared, self.compared.fdref.calls
+        records, first = compared.records, min(int(it.fdref.place) for it in self.stuck if it.fdref)
+        are_left = all(not it.parting.system for it in self.findings) and not past.doubt(self.past)
+        is_plain = all(line.place.partition("@")[0] == "-" for line in compared.system_lines)
+        before = {way: [it for it in calls[way] if it.place.isdigit() and int(it.place) < first] for way in calls}
+        is_same = all(len(made) == len(before.get(way, ())) for way, made in compared.system.calls.items())
+        gone = {int(line.outcome) for line in compared.noted_lines if is_wait(line)}
+        ways = {number: way for way, number in compared.fdref.numbers.items()}
+        exited = {ways.get(line.number() or 0, ()) for line in records[:first] if word_of(line) == "exit"}
+        are_gone = all(compared.system.numbers.get(way) in gone for way in exited)
+        return are_left and is_plain and is_same and are_gone
 
     def wrong_signals(self) -> list[str]:
         """What is said of signals that have ended a process on the system which ignores them, and of SIGPIPE where it
@@ -651,6 +695,8 @@ class Verdict:
     def cause_of_end(self) -> str:
         """What may be why the two end otherwise, or write something else, though no answer does without a reason."""
         one, other = self.both.system, self.both.fdref
+        if self.stuck:
+            return told_stuck(self.stuck[0])
         descriptor = "1" if one.stdout != other.stdout else "2" if one.stderr != other.stderr else ""
         held = [it for it in self.causes.every if it.kind == past.THREAD and other.status is None]
         cause = next(iter(held), None) or self.causes.of_output(descriptor)
@@ -875,10 +921,18 @@ def told_unexplained(verdict: Verdict) -> str:
     return "; ".join([differ, *told_open(verdict.order)])
 
 
+def told_stuck(parting: Parting) -> str:
+    """The call in which a process of the system was to the end, and that fdref has answered."""
+    act = parting.fdref.act if parting.fdref else ""
+    return f"{compare.clipped(act)} has not come back on the system, which was killed in it"
+
+
 def told_difference(verdict: Verdict) -> str:
     """What status 1 means."""
     if verdict.signals or verdict.looks:
         return [*verdict.signals, *verdict.looks][0]
+    if verdict.stuck and verdict.is_stuck_alone():
+        return told_stuck(verdict.stuck[0])
     if verdict.differs_in_calls() and verdict.order and verdict.order.is_found is False:
         return verdict.order.said
     if verdict.differs_in_calls():

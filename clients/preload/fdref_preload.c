@@ -43,10 +43,13 @@
                         signals. After `ends heard` or `restarts heard` this library calls the handler, and notes `- 57
                         p0 ran 14` before.
 
+     FDREF_SHARED=FILE  Natively what processes share is in this file, which may not be there yet: after the numbers of
+                        files and exits, of each process in which call it is that may wait.
+
    Without the first two nothing is changed, nor before a program has its environment, as in .preinit_array. Where there
-   is no answer (no server, no place at it for one more process, a run that is full, a lost connection), and where a hard
-   limit of the size of files cuts the log, that is told on standard error, and the program ends with status 124. A soft
-   one is lifted while this library writes.
+   is no answer (no server, no place at it for one more process, a run that is full, a lost connection), and where a
+   hard limit of the size of files cuts the log, that is told on standard error, and the program ends with status 124. A
+   soft one is lifted while this library writes.
 
    Names. fdref has one folder. A name without `/`, or with only `./` before it, is asked of fdref, whatever the working
    directory is. Every other path, `.` and `..` go to the kernel, and a link or a rename between the two is EXDEV. So
@@ -268,7 +271,7 @@ static int64_t gone_to_lowest(const struct going *it, int64_t given)
     do { \
         const void *before = go_in(&next); \
         const int64_t start = began; \
-        const struct masked masked = before_call(); \
+        const struct masked masked = before_call(__func__); \
         given = call; \
         after_call(&masked, __func__); \
         began = start; \

@@ -485,20 +485,24 @@ mode_t umask(mode_t mask)
 static void hear(int number)
 {
     struct keeping *kept = pause_keeping();
+    struct inside was = leave();
     note_run(number);
     runs++;
     if (passed_on[number].plain)
         passed_on[number].plain(number);
+    come_back(was);
     go_on_keeping(kept);
 }
 
 static void hear_more(int number, siginfo_t *info, void *context)
 {
     struct keeping *kept = pause_keeping();
+    struct inside was = leave();
     note_run(number);
     runs++;
     if (passed_on[number].more)
         passed_on[number].more(number, info, context);
+    come_back(was);
     go_on_keeping(kept);
 }
 
@@ -512,6 +516,32 @@ static int hears(int number)
 static int is_function(handler to) { return (uintptr_t)to > 2 && to != SIG_ERR && to != hear; }
 
 typedef int acts_next(int, const struct sigaction *, struct sigaction *);
+
+/* The flags of a signal's handler: those of the kernel where it is known how it tells them, else of the C library. */
+static int flags_of_handler(acts_next *next, int number, int *flags)
+{
+    struct sigaction now;
+#if defined __x86_64__ || defined __aarch64__
+    unsigned long told[8] = {0};
+    if (system_syscall(SYS_rt_sigaction, (long)number, NULL, told, 8L) == 0) {
+        memcpy(flags, &told[1], sizeof *flags);
+        return 1;
+    }
+#endif
+    if (next(number, NULL, &now) != 0)
+        return 0;
+    *flags = now.sa_flags;
+    return 1;
+}
+
+/* Notes that a handler was set without SA_RESTART or with it, otherwise than it was asked for. */
+static void check_restarts(acts_next *next, int number, const struct sigaction *to)
+{
+    int flags, error = errno;
+    if (is_alone() && flags_of_handler(next, number, &flags) && ((flags ^ to->sa_flags) & SA_RESTART) != 0)
+        note_wrong("sigaction", "has set SA_RESTART otherwise than it was asked for");
+    errno = error;
+}
 
 /* Sets a handler, which this library calls from now on, and tells the one before. */
 static int set_heard(acts_next *next, int number, const struct sigaction *to, struct sigaction *was)
@@ -536,8 +566,10 @@ static int set_heard(acts_next *next, int number, const struct sigaction *to, st
     }
     is_setting = 1;
     given = next(number, to ? &own : NULL, &past);
-    is_setting = 0;
     error = errno;
+    if (given == 0 && to)
+        check_restarts(next, number, to);
+    is_setting = 0;
     if (given != 0)
         passed_on[number] = last;
     if (given == 0 && past.sa_handler == hear)

@@ -12,6 +12,11 @@ struct shared {
     struct named named[NAMED_MOST];
     /* the exits of processes as they make them: the number in the system, and the status after that */
     uint64_t exits[EXITS_MOST];
+    /* the calls that native processes are in which may wait, by their numbers in the system */
+    struct inside {
+        uint64_t number;
+        char name[8];
+    } inside[EXITS_MOST];
 };
 static struct shared *shared;
 
@@ -24,10 +29,12 @@ static void map_shared(void)
     shared = (struct shared *)found;
 }
 
-/* Makes the file, which is zeros, for a first process and all that come of it. */
+/* Makes the file, which is zeros, for a first process and all that come of it. One with a name may be read later. */
 static void begin_sharing(void)
 {
-    int made = (int)system_syscall(SYS_memfd_create, "fdref-preload", (long)MFD_CLOEXEC);
+    const char *path = getenv("FDREF_SHARED");
+    int made = path ? system_open(path, O_RDWR | O_CREAT | O_EXCL | O_CLOEXEC, 0600) : -1;
+    made = made < 0 ? (int)system_syscall(SYS_memfd_create, "fdref-preload", (long)MFD_CLOEXEC) : made;
     if (made < 0 || system_syscall(SYS_ftruncate, (long)made, (long)sizeof *shared) != 0)
         end_with(NO_ANSWER, "no shared memory: %s", strerror(errno));
     shared_file = hidden(made);
@@ -51,6 +58,16 @@ static int said_exit(pid_t pid)
 {
     uint64_t said = __atomic_load_n(exit_of(pid), __ATOMIC_SEQ_CST);
     return said >> 32 == (uint64_t)pid ? (int)(said & 255) : -1;
+}
+
+/* Says in which call a process is, which has a number that is one more than its own, or 0 where it is in none. */
+static void say_inside(pid_t pid, uint64_t number, const char *name)
+{
+    struct inside *it = &shared->inside[(uint64_t)pid % EXITS_MOST];
+    size_t size = strlen(name);
+    memset(it->name, 0, sizeof it->name);
+    memcpy(it->name, name, size < sizeof it->name ? size : sizeof it->name);
+    __atomic_store_n(&it->number, number, __ATOMIC_SEQ_CST);
 }
 
 /* ---- the numbers of files

@@ -13,13 +13,25 @@ struct masked {
     sigset_t signals;
 };
 
-static struct masked before_call(void)
+static struct masked before_call(const char *name)
 {
     struct masked before = {is_watching(), runs, {{0}}};
+    if (before.is_known)
+        say_inside(own_pid, (uint64_t)native_number + 1, name);
     if (before.is_known)
         before.is_known = pthread_sigmask(SIG_BLOCK, NULL, &before.signals) == 0;
     return before;
 }
+
+/* A handler may not come back to the call in which it runs. */
+static struct inside leave(void)
+{
+    struct inside *it = &shared->inside[(uint64_t)own_pid % EXITS_MOST], was = *it;
+    it->number = 0;
+    return was;
+}
+
+static void come_back(struct inside was) { shared->inside[(uint64_t)own_pid % EXITS_MOST] = was; }
 
 static int are_same(const sigset_t *one, const sigset_t *other)
 {
@@ -34,6 +46,8 @@ static void after_call(const struct masked *before, const char *name)
 {
     int error = errno;
     sigset_t now;
+    if (is_watching())
+        say_inside(own_pid, 0, "");
     if (before->is_known && before->runs == runs && pthread_sigmask(SIG_BLOCK, NULL, &now) == 0
         && !are_same(&before->signals, &now))
         note_wrong(name, "has changed which signals are blocked");

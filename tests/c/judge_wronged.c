@@ -177,6 +177,31 @@ static void keep_flags_after_thread(void)
 static void hear(int number) { heard += number == SIGUSR1; }
 static void hear_more(int number, siginfo_t *info, void *context) { heard += info->si_signo == number && context; }
 
+/* A handler is set that restarts calls. */
+static void restart(void)
+{
+    struct sigaction action;
+    memset(&action, 0, sizeof action);
+    action.sa_handler = hear;
+    action.sa_flags = SA_RESTART;
+    sigaction(SIGUSR1, &action, NULL);
+    write(ends[1], "x", 1);
+    read(ends[0], bytes, 1);
+}
+
+/* A child has written and gone when its parent reads. */
+static void read_beside(void)
+{
+    if (fork() == 0) {
+        write(ends[1], "x", 1);
+        _exit(0);
+    }
+    wait(NULL);
+    close(ends[1]);
+    read(ends[0], bytes, 1);
+    read(ends[0], bytes, 1);
+}
+
 /* Handlers run between calls, and none in a read. */
 #pragma GCC diagnostic ignored "-Wdeprecated-declarations"
 static void hear_signals(void)
@@ -251,6 +276,7 @@ int main(int count, char **words)
         {"end", end},                   {"dup3-same", copy_same},
         {"access-refused", ask},        {"read-beyond", take_few},
         {"cloexec-thread", keep_flags_after_thread},
+        {"restart-lost", restart},      {"never-beside", read_beside},
     };
     own_path = words[0];
     if (count != 2 || pipe(ends) != 0)

@@ -25,7 +25,9 @@
    dup3-same       dup3 of one number twice gives it
    access-refused  access is ENOENT
    read-beyond     a read changes a byte beyond its buffer
-   cloexec-thread  F_GETFD gives 0 */
+   cloexec-thread  F_GETFD gives 0
+   restart-lost    sigaction sets no SA_RESTART
+   never-beside    a read never comes back */
 
 #define _GNU_SOURCE
 
@@ -53,7 +55,7 @@ ssize_t read(int fd, void *to, size_t count)
     sigfillset(&all);
     if (is_wrong("mask-kept"))
         sigprocmask(SIG_BLOCK, &all, NULL);
-    while (is_wrong("never-back"))
+    while (is_wrong("never-back") || is_wrong("never-beside"))
         pause();
     ssize_t done = is_wrong("early-signal") ? -1 : syscall(SYS_read, fd, to, count);
     if (is_wrong("early-signal"))
@@ -80,6 +82,19 @@ int fcntl(int fd, int command, ...)
         return -1;
     }
     return (int)syscall(SYS_fcntl, fd, command, argument + (command == F_DUPFD && is_wrong("dupfd-high")));
+}
+
+int sigaction(int number, const struct sigaction *to, struct sigaction *was)
+{
+    int (*next)(int, const struct sigaction *, struct sigaction *);
+    struct sigaction action;
+    void *found = dlsym(RTLD_NEXT, "sigaction");
+    memcpy(&next, &found, sizeof next);
+    if (!to || !is_wrong("restart-lost"))
+        return next(number, to, was);
+    action = *to;
+    action.sa_flags &= ~SA_RESTART;
+    return next(number, &action, was);
 }
 
 /* Ends the process by a signal that it ignores, by the way of the C library alone. */

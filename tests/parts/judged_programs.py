@@ -686,6 +686,8 @@ WRONGED = {
     "dup3-same": f"{OF_SYSTEM}p0 dup3: has not refused one number twice, or other flags",
     "access-refused": "verdict: a difference: access tells otherwise: system: a = error 2, fdref: a = there",
     "read-beyond": f"{OF_SYSTEM}p0 read: has changed what is beyond its buffer",
+    "restart-lost": f"{OF_SYSTEM}p0 sigaction: has set SA_RESTART otherwise than it was asked for",
+    "never-beside": "verdict: a difference: p0 read 3 1 has not come back on the system, which was killed in it",
     "cloexec-thread": "1 answer about FD_CLOEXEC differs from what was set: system: p0 fcntl F_GETFD 3 = 0",
 }
 
