@@ -65,7 +65,10 @@ The last line says what the exit status means:
 1  the answer to the same call differs, or that of F_GETFD from how FD_CLOEXEC was set, and none of these may be
    why: a reason, an order that was not decided on, what is told to go past fdref before it (tools/causes.py has
    what is known to be harmless), a thread that waits and holds its process, a child that a signal ended, a
-   descriptor that no call of fdref made, and a right. Or no order gives the answers; or the audit finds a fault
+   descriptor that no call of fdref made, and a right. Or no order gives the answers; or the audit finds a fault. Or
+   a call of the system does what it may not beside its answer: it blocks other signals, SIGPIPE comes otherwise than
+   once with EPIPE, SA_RESTART is set otherwise, a wait tells otherwise of a child than the kernel, an exec gives a
+   program other words, a read changes what is beyond its buffer; or it has not come back to the end
 2  wrong words
 3  not judged: answers differ that have a reason; or one of these may be why; or a process makes another call, so
    that its program went another way, as by the time, a timer, the number of a process, an address or a mode; or
@@ -342,7 +345,7 @@ class Both(NamedTuple):
     still: str = ""
     # what was noted of the run on the system beside its calls
     system_past: bytes = b""
-    # the calls in which its processes were when it was killed, by their numbers
+    # the calls in which its processes were when it was killed, by their numbers, or the program itself as it crashed
     inside: Mapping[int, str] = {}
 
 
@@ -476,7 +479,10 @@ class Job:
             raise NotJudged("; ".join([lost, *why, *past.told_past(past.past_of(self.past("fdref")))]))
         shared = Path(self.folder, "shared")
         system, system_log = self.ran("system", FDREF_SHARED=str(shared))
-        inside = inside_of(shared.read_bytes()) if system.status is None and shared.exists() else {}
+        inside = inside_of(shared.read_bytes()) if shared.exists() else {}
+        if system.status is not None:
+            # of a child that a signal ended it is not known whether it came from another process
+            inside = {0: inside[0]} if 0 in inside and -system.status in CRASHES else {}
         noted = self.past("fdref"), still.told, self.past("system")
         return Both(system, fdref, system_log, fdref_log, trace, *noted, inside)
 
@@ -588,8 +594,9 @@ class Verdict:
         return [f"{apart[0]} tells otherwise: system: {apart[1]}, fdref: {apart[2]}"] if apart else []
 
     def stuck_calls(self) -> list[Parting]:
-        """The calls in which processes of the system were when it was killed, and which fdref has answered."""
+        """The calls that fdref has answered, and in which processes of the system were as it was killed or crashed."""
         lefts = [it for it in self.compared.partings if not it.system and it.fdref and it.fdref.place.isdigit()]
+        lefts = [it for it in lefts if it.fdref and not it.fdref.outcome.startswith(("parked ", "part "))]
         numbers = self.compared.system.numbers
         is_in = {way: self.both.inside.get(numbers[way], "") for way in numbers}
         return [it for it in lefts if it.fdref and is_in.get(it.way, "") in SAME_CALLS.get(word_of(it.fdref), ())]
@@ -607,7 +614,8 @@ class Verdict:
         ways = {number: way for way, number in compared.fdref.numbers.items()}
         exited = {ways.get(line.number() or 0, ()) for line in records[:first] if word_of(line) == "exit"}
         are_gone = all(compared.system.numbers.get(way) in gone for way in exited)
-        return are_left and is_plain and is_same and are_gone
+        is_one = self.both.system.status is None or compared.processes == 1
+        return is_one and are_left and is_plain and is_same and are_gone
 
     def wrong_signals(self) -> list[str]:
         """What is said of signals that have ended a process on the system which ignores them, and of SIGPIPE where it
@@ -696,7 +704,7 @@ class Verdict:
         """What may be why the two end otherwise, or write something else, though no answer does without a reason."""
         one, other = self.both.system, self.both.fdref
         if self.stuck:
-            return told_stuck(self.stuck[0])
+            return told_stuck(self.stuck[0], one.status)
         descriptor = "1" if one.stdout != other.stdout else "2" if one.stderr != other.stderr else ""
         held = [it for it in self.causes.every if it.kind == past.THREAD and other.status is None]
         cause = next(iter(held), None) or self.causes.of_output(descriptor)
@@ -921,10 +929,11 @@ def told_unexplained(verdict: Verdict) -> str:
     return "; ".join([differ, *told_open(verdict.order)])
 
 
-def told_stuck(parting: Parting) -> str:
+def told_stuck(parting: Parting, status: int | None) -> str:
     """The call in which a process of the system was to the end, and that fdref has answered."""
-    act = parting.fdref.act if parting.fdref else ""
-    return f"{compare.clipped(act)} has not come back on the system, which was killed in it"
+    act = compare.clipped(parting.fdref.act if parting.fdref else "")
+    ended = "which was killed in it" if status is None else f"where {signal_named(-status)} ended it"
+    return f"{act} has not come back on the system, {ended}"
 
 
 def told_difference(verdict: Verdict) -> str:
@@ -932,7 +941,7 @@ def told_difference(verdict: Verdict) -> str:
     if verdict.signals or verdict.looks:
         return [*verdict.signals, *verdict.looks][0]
     if verdict.stuck and verdict.is_stuck_alone():
-        return told_stuck(verdict.stuck[0])
+        return told_stuck(verdict.stuck[0], verdict.both.system.status)
     if verdict.differs_in_calls() and verdict.order and verdict.order.is_found is False:
         return verdict.order.said
     if verdict.differs_in_calls():

@@ -277,6 +277,7 @@ int main(int count, char **words)
         {"access-refused", ask},        {"read-beyond", take_few},
         {"cloexec-thread", keep_flags_after_thread},
         {"restart-lost", restart},      {"never-beside", read_beside},
+        {"read-crashes", take_few},
     };
     own_path = words[0];
     if (count != 2 || pipe(ends) != 0)

@@ -27,7 +27,8 @@
    read-beyond     a read changes a byte beyond its buffer
    cloexec-thread  F_GETFD gives 0
    restart-lost    sigaction sets no SA_RESTART
-   never-beside    a read never comes back */
+   never-beside    a read never comes back
+   read-crashes    a read ends the process by SIGSEGV */
 
 #define _GNU_SOURCE
 
@@ -55,6 +56,8 @@ ssize_t read(int fd, void *to, size_t count)
     sigfillset(&all);
     if (is_wrong("mask-kept"))
         sigprocmask(SIG_BLOCK, &all, NULL);
+    if (is_wrong("read-crashes"))
+        raise(SIGSEGV);
     while (is_wrong("never-back") || is_wrong("never-beside"))
         pause();
     ssize_t done = is_wrong("early-signal") ? -1 : syscall(SYS_read, fd, to, count);

@@ -658,8 +658,9 @@ def finds_long_reads(bench: Bench) -> None:
     require(said[-1].startswith("verdict: a difference: "), ran.said())
 
 
+DIFFERS = "verdict: a difference: "
+OF_SYSTEM = f"{DIFFERS}system: "
 # What a wrong C library answers to a program, by what it is wrong about.
-OF_SYSTEM = "verdict: a difference: system: "
 WRONGED = {
     "dry-end": "system: p0 read 3 1 = error EAGAIN",
     "cloexec-lost": "7 answers about FD_CLOEXEC differ from what was set: system: p0 fcntl F_GETFD 3 = 0",
@@ -687,7 +688,8 @@ WRONGED = {
     "access-refused": "verdict: a difference: access tells otherwise: system: a = error 2, fdref: a = there",
     "read-beyond": f"{OF_SYSTEM}p0 read: has changed what is beyond its buffer",
     "restart-lost": f"{OF_SYSTEM}p0 sigaction: has set SA_RESTART otherwise than it was asked for",
-    "never-beside": "verdict: a difference: p0 read 3 1 has not come back on the system, which was killed in it",
+    "never-beside": f"{DIFFERS}p0 read 3 1 has not come back on the system, which was killed in it",
+    "read-crashes": f"{DIFFERS}p0 read 3 2 has not come back on the system, where signal 11 (SIGSEGV) ended it",
     "cloexec-thread": "1 answer about FD_CLOEXEC differs from what was set: system: p0 fcntl F_GETFD 3 = 0",
 }
 
