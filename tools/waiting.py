@@ -6,8 +6,11 @@ usage: tools/waiting.py TRACE
 TRACE is a file that `fdref serve` has written, or is writing still: where a server seems to stand still, this tells
 what its clients wait for. Of each process that is there a line says in what call it waits, since which record, and who
 has the other end of the pipe or FIFO; or that the call can go on, so that its resume is due; that it waits in no call;
-or that it was forked and has no connection. The last line counts them. What a server has answered stands in TRACE about
-a millisecond later. Whether a client reads its answers it does not tell: one that does not waits in no call.
+or that it was forked and has no connection. Then it tells how many bytes of a record that is not whole are left over,
+as a server leaves them that was killed. The last line counts the processes. What a server has answered stands in TRACE
+about a millisecond later. Whether a client reads its answers it does not tell: one that does not waits in no call. Nor
+does a trace have the number of sessions, or a connection that has sent nothing yet, which takes one of them: while a
+run goes on, a line says so.
 
 Exit status: 0 where a process that has a connection waits in no call, or there is none; 1 where all of them wait, and
 the call of none can go on, or where one can go on and did not for a third of a second, so that its wake is lost; 2 for
@@ -34,6 +37,9 @@ RESUME_SECONDS = 0.3
 # How much of a call is shown.
 CALL_SHOWN = 60
 
+# What is told of a run that goes on.
+UNSEEN = "a connection that has sent nothing yet is not seen"
+
 
 class BadTrace(Exception):
     """What is no trace of a run."""
@@ -47,6 +53,8 @@ class Standing:
         if not audit.verdict.stdout.startswith(b"legal "):
             raise BadTrace(audit.verdict.stdout.decode().strip())
         self.world: World = audit.judge.world
+        # how many bytes come after the last whole record
+        self.rest = audit.frames.rest
         # the last call of each process, with its place
         self.calls: dict[int, tuple[int, str]] = {}
         self.connections = 0
@@ -99,8 +107,13 @@ class Standing:
         reason = self.reason(process) if self.is_stuck(process) else f"and can go on{late}"
         return f"{who} waits in {shown} since record {place}{moved}, {reason}"
 
+    def beside(self) -> list[str]:
+        """What is left over of the trace, and what it does not tell."""
+        rest = [f"{several(self.rest, 'byte')} left over after the last whole record"] if self.rest else []
+        return rest + ([] if self.world.is_closed else [UNSEEN])
+
     def lines(self) -> list[str]:
-        """A line for each process, and one for all."""
+        """A line for each process, what is beside them, and one for all."""
         processes = [process for _, process in sorted(self.world.processes.items())]
         attached = [process for process in processes if process.attached]
         waiting = sum(process.waits is not None for process in attached)
@@ -112,7 +125,7 @@ class Standing:
             last += ": none goes on by itself"
         if self.lost:
             last += f": {several(len(self.lost), 'call')} can go on, and no resume came"
-        return [*map(self.told, processes), last]
+        return [*map(self.told, processes), *self.beside(), last]
 
     def all_wait(self) -> bool:
         """Whether all that have a connection wait, and the call of none can go on."""

@@ -27,6 +27,7 @@ TOOL = TOOLS / "waiting.py"
 PAIR = ["0 p0 join = 0", "1 p0 pipe = 0 1", "2 p0 fork = 1"]
 BOTH = [*PAIR, "3 p1 attach = ok"]
 LONG = "6162" * 515
+UNSEEN = "a connection that has sent nothing yet is not seen"
 NOBODY = ": a server that goes on waits for connections"
 STUCK = ": none goes on by itself"
 LOST = ": 1 call can go on, and no resume came"
@@ -108,7 +109,9 @@ def told(trace: bytes) -> Ran:
 
 def by_hand(records: list[str], text: str, status: int) -> None:
     """What is told of records that are written out."""
-    same(Ran(status, f"{text}\n".encode(), b""), told(trace_of(records)))
+    *processes, last = text.split("\n")
+    lines = [*processes, last] if records and "close-run" in records[-1] else [*processes, UNSEEN, last]
+    same(Ran(status, "".join(f"{line}\n" for line in lines).encode(), b""), told(trace_of(records)))
 
 
 def long_is_told() -> None:
@@ -145,9 +148,16 @@ def nothing_is_told() -> None:
 
 
 def cut_trace() -> None:
-    """A record that is not whole yet is not looked at, as in a trace that is being written."""
-    text = "p0 waits in no call\n1 process, 1 with a connection (1 so far), 0 of which wait\n"
-    same(Ran(0, text.encode(), b""), told(trace_of(PAIR[:2])[:-3]))
+    """A record that is not whole yet is not looked at, as in a trace that is being written, and its bytes are told, also
+    after a closing."""
+    trace = trace_of(PAIR[:2])
+    last = "1 process, 1 with a connection (1 so far), 0 of which wait"
+    for cut, rest in ((3, "15 bytes"), (17, "1 byte")):
+        text = f"p0 waits in no call\n{rest} left over after the last whole record\n{UNSEEN}\n{last}\n"
+        same(Ran(0, text.encode(), b""), told(trace[:-cut]))
+    closed = trace_of(["0 p0 join = 0", "1 p0 exit = ok", "2 house close-run = ok"]) + b"\0\0"
+    last = "0 processes, 0 with a connection (1 so far), 0 of which wait"
+    same(Ran(0, f"2 bytes left over after the last whole record\n{last}\n".encode(), b""), told(closed))
 
 
 def no_trace() -> None:
@@ -178,7 +188,8 @@ def random_case(seed: str, number: int) -> None:
         wanted.append(f"p{it.number} {what}")
     ran = told(trace_of(records))
     lines = ran.stdout.decode().splitlines()
-    same(wanted, [seen(line) for line in lines[:-1]])
+    same(wanted, [seen(line) for line in lines[:-1] if line != UNSEEN])
+    same(not judge.world.is_closed, UNSEEN in lines)
     attached = [line for line in wanted if not line.endswith("alone")]
     is_lost = any(line.endswith("ready") for line in attached)
     same(int(is_lost or (bool(attached) and all(line.endswith("stuck") for line in attached))), ran.status)
