@@ -79,7 +79,7 @@ struct fdref;
 /* Connects to the server at a path as a new process, without open descriptors. NULL: errno is EAGAIN where no process
    can come any more, or that of a refusal, or what kept it from connecting; or it is ETIMEDOUT where the connection was
    made and no answer came within FDREF_FIRST_ANSWER seconds: the server has as many connections as its --sessions
-   says, and answers no other, or it is no fdref. */
+   says, and answers no other, or has no descriptors for one more, or it is no fdref. */
 struct fdref *fdref_join(const char *path);
 
 /* The same; a server that is only starting is waited for, at most so many seconds, and its answer no longer than that
@@ -90,9 +90,9 @@ struct fdref *fdref_join_within(const char *path, unsigned seconds);
 struct fdref *fdref_attach(const char *path, pid_t child);
 struct fdref *fdref_attach_within(const char *path, pid_t child, unsigned seconds);
 
-/* What to tell where one of these gave NULL, by its errno: "no answer: all sessions are taken, or no fdref listens
-   there" of ETIMEDOUT, "the server ended before it had a place for this process" of ECONNRESET, and of another what
-   strerror has. */
+/* What to tell where one of these gave NULL, by its errno: "no answer: all sessions are taken, the server can take no
+   further connection, or no fdref listens there" of ETIMEDOUT, "the server ended before it had a place for this
+   process" of ECONNRESET, and of another what strerror has. */
 const char *fdref_no_process(int number);
 
 /* Limits how many seconds may pass in which nothing comes of an answer that is waited for, or in which the server takes
@@ -921,7 +921,10 @@ const char *fdref_no_process(int number)
 {
     if (number == ECONNRESET)
         return "the server ended before it had a place for this process";
-    return number == ETIMEDOUT ? "no answer: all sessions are taken, or no fdref listens there" : strerror(number);
+    if (number == ETIMEDOUT)
+        return "no answer: all sessions are taken, the server can take no further connection, or no fdref listens "
+               "there";
+    return strerror(number);
 }
 
 /* The server hangs up once the exit is recorded. */

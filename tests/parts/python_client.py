@@ -199,7 +199,7 @@ def broken_off(program: str) -> None:
 
 
 # What is told where the connection is made and no answer comes, whoever listens.
-NO_PLACE = "no answer: all sessions are taken, or no fdref listens there"
+NO_PLACE = "no answer: all sessions are taken, the server can take no further connection, or no fdref listens there"
 
 
 def without_a_place(program: str) -> None:

@@ -12,8 +12,9 @@ are methods that have the names, the arguments and the values of the functions i
 `getfl` and `setfl` are F_GETFL and F_SETFL of `fcntl`. A process makes one call at a time, so only
 one thread at a time may use it; give each process a thread of its own.
 
-A server takes as many connections as its `--sessions` says. One more connects, but nothing ever answers it; `join`
-and `attach` then raise NoPlace. Other answers are waited for without a limit, unless `process.timeout` is set.
+A server takes as many connections as its `--sessions` says, or its descriptors allow. One more connects, but nothing
+ever answers it; `join` and `attach` then raise NoPlace. Other answers are waited for without a limit, unless
+`process.timeout` is set.
 
 Each answer has a place in the record of the run, and `process.place` is that of the last one. A call
 that has to wait is answered more than once: first that it waits, and at last its reply. Its method
@@ -140,11 +141,12 @@ class NoAnswer(TimeoutError):
 
 
 class NoPlace(NoAnswer):
-    """The connection was made and no first answer came: the server serves as many processes as it was told to, or it is
-    no fdref."""
+    """The connection was made and no first answer came: the server serves as many processes as it was told to, has no
+    descriptors for one more, or is no fdref."""
 
     def __init__(self, path: str) -> None:
-        super().__init__("no answer: all sessions are taken, or no fdref listens there", path)
+        why = "all sessions are taken, the server can take no further connection, or no fdref listens there"
+        super().__init__(f"no answer: {why}", path)
 
 
 class Stat(NamedTuple):
