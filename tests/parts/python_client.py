@@ -10,6 +10,7 @@ import stat
 import sys
 import threading
 import time
+import warnings
 from collections.abc import Callable, Iterator, Sequence
 from functools import partial
 from typing import Any, NoReturn, TypeVar
@@ -251,8 +252,13 @@ def with_a_full_queue() -> None:
         thread.join(SECONDS)
 
 
+# What is told of an exit after its limit: the path, and the limit in seconds.
+STAYS = "{}: the server has not closed the connection in {} seconds: the exit may not be recorded yet"
+
+
 def with_a_server_that_stays() -> None:
-    """An exit does not wait for long for a server that never closes the connection, nor longer than was allowed."""
+    """An exit does not wait for long for a server that never closes the connection, nor longer than was allowed, and
+    tells that."""
     listener = Listener()
     listener.socket.listen(2)
     with contextlib.closing(listener), contextlib.ExitStack() as stack:
@@ -262,10 +268,12 @@ def with_a_server_that_stays() -> None:
             process = fdref.join(listener.path, within=SECONDS)
             process.timeout = limit
             begun = time.monotonic()
-            with mock.patch("fdref.EXIT_WITHIN", within):
+            with mock.patch("fdref.EXIT_WITHIN", within), warnings.catch_warnings(record=True) as caught:
+                warnings.simplefilter("always")
                 process.exit()
             took = time.monotonic() - begun
             require(A_WHILE <= took < SECONDS, f"it took {took} seconds, and {A_WHILE} were given")
+            same([STAYS.format(listener.path, A_WHILE)], [str(it.message) for it in caught])
             answering.join(SECONDS)
 
 

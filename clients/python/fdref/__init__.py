@@ -64,13 +64,13 @@ docs/FORMATS.md has the bytes of requests, answers and traces, and docs/PROFILE.
 
 from __future__ import annotations
 
-import contextlib
 import errno
 import os
 import socket
 import stat
 import struct
 import time
+import warnings
 from collections.abc import Callable, Iterable, Sequence
 from dataclasses import dataclass
 from typing import Any, NamedTuple
@@ -257,14 +257,21 @@ class Process:
     def exit(self) -> None:
         """Ends the process, as `os._exit` does: the server closes its descriptors. Its exit is recorded when this returns,
         unless the connection was lost, or the server did not close it within EXIT_WITHIN seconds, or `timeout` if that is
-        less."""
-        with contextlib.suppress(OSError):
+        less: that is told by a RuntimeWarning."""
+        within = EXIT_WITHIN if self.timeout is None else min(EXIT_WITHIN, self.timeout)
+        try:
             self._socket.shutdown(socket.SHUT_WR)
-            self._socket.settimeout(EXIT_WITHIN if self.timeout is None else min(EXIT_WITHIN, self.timeout))
+            self._socket.settimeout(within)
             # the server closes the connection once it has recorded the exit
             while self._socket.recv(ANSWER_MOST):
                 pass
-        self._close()
+        except TimeoutError:
+            told = f"{self._path}: the server has not closed the connection in {within} seconds"
+            warnings.warn(f"{told}: the exit may not be recorded yet", RuntimeWarning, stacklevel=2)
+        except OSError:
+            pass
+        finally:
+            self._close()
 
     def _close(self) -> None:
         """Closes the connection, by which the process ends, perhaps later."""
