@@ -99,9 +99,10 @@ const char *fdref_no_process(int number);
    nothing of a request; 0, as at the beginning, is no limit. Each answer that a call waits begins a new wait. */
 void fdref_answer_within(struct fdref *p, unsigned seconds);
 
-/* Ends a process, as _exit does, and frees it. Its exit is recorded when this returns, unless the connection was lost or
-   a limit passed. It does not change errno. */
-void fdref_exit(struct fdref *p);
+/* Ends a process, as _exit does, and frees it. Its exit is recorded when this gives 0. It gives ETIMEDOUT where a limit
+   passed before the server closed the connection, which then records the exit later, and ECONNRESET where the
+   connection was lost. It does not change errno. */
+int fdref_exit(struct fdref *p);
 
 /* Frees a process in a child made by fork; the connection stays its parent's. It does not change errno. */
 void fdref_forget(struct fdref *p);
@@ -928,19 +929,22 @@ const char *fdref_no_process(int number)
 }
 
 /* The server hangs up once the exit is recorded. */
-void fdref_exit(struct fdref *p)
+int fdref_exit(struct fdref *p)
 {
-    int error = errno;
+    int error = errno, fault = p && p->socket < 0 ? ECONNRESET : 0;
     if (p && p->socket >= 0) {
         ssize_t some;
         shutdown(p->socket, SHUT_WR);
         do
             some = recv(p->socket, p->frame, sizeof p->frame, 0);
         while (some > 0 || (some < 0 && errno == EINTR));
+        if (some < 0)
+            fault = errno == EAGAIN || errno == EWOULDBLOCK ? ETIMEDOUT : ECONNRESET;
         close(p->socket);
     }
     free(p);
     errno = error;
+    return fault;
 }
 
 void fdref_forget(struct fdref *p)

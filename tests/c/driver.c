@@ -10,7 +10,7 @@
    Each answer is a line, `PLACE OUTCOME`. A call that has waited, and did not return when it was parked, has ` after N
    M` behind that: it was told N times to wait, and had moved M bytes. A call that leaves no record gives `- REFUSAL
    ERRNO`, a join or attach that fails `- ERRNO`, and with it `no answer ..` on standard error where that is so, and an
-   exit, `returns` or `within` nothing. */
+   exit, `returns` or `within` nothing, but that an exit that passed its limit tells so on standard error. */
 
 #include <stdio.h>
 #include <stdlib.h>
@@ -182,7 +182,8 @@ static void take_line(void)
     if (is("join") || is("attach")) {
         begin(is("join"));
     } else if (is("exit")) {
-        fdref_exit(process);
+        if (fdref_exit(process) == ETIMEDOUT)
+            fprintf(stderr, "no end of the connection\n");
         process = NULL;
     } else if (is("returns")) {
         returns = small(1);

@@ -1,5 +1,6 @@
 """The client in C against servers: real ones, and such as answer what they are told."""
 
+import contextlib
 import os
 import re
 import select
@@ -484,6 +485,27 @@ def limited(program: str, build: Build, odd: int) -> None:
         writer.ends()
 
 
+def with_a_server_that_stays(build: Build) -> None:
+    """An exit for which the server does not close the connection within a limit tells that."""
+    told = Told(build, 0)
+    with contextlib.ExitStack() as stack:
+        stack.callback(told.vanish)
+
+        def stays() -> None:
+            stack.enter_context(told.socket.accept()[0]).sendall(answer(0, "0"))
+
+        answering = threading.Thread(target=stays, daemon=True)
+        answering.start()
+        told.tells("join", "0 0")
+        told.say("within 1")
+        begun = time.monotonic()
+        told.say("exit")
+        told.ends(b"no end of the connection\n")
+        took = time.monotonic() - begun
+        require(1 <= took < SECONDS, f"told after {took} seconds, and 1 was given")
+        answering.join(SECONDS)
+
+
 def served_cases(program: str, builds: Sequence[Build]) -> Iterator[Case]:
     """The client with the server."""
     for build in builds:
@@ -491,6 +513,7 @@ def served_cases(program: str, builds: Sequence[Build]) -> Iterator[Case]:
         yield f"a server full of processes, {build.name}", partial(is_full_of_processes, program, build)
         yield f"a server full of records, {build.name}", partial(is_full_of_records, program, build)
         yield f"a queue without a place, {build.name}", partial(with_a_full_queue, build)
+        yield f"a server that stays, {build.name}", partial(with_a_server_that_stays, build)
         for odd in (0, ODD):
             yield f"a server that ends, {named(build, odd)}", partial(server_is_gone, program, build, odd)
             yield f"a server without a place, {named(build, odd)}", partial(without_a_place, program, build, odd)
