@@ -47,6 +47,10 @@ fdref Sockets.is_unheard: λ _ _. ⊤
 fdref SystemFiles.bytes_at: λ _ _. None
 fdref SystemFiles.is_taken: λ _ _. ⊤
 fdref SystemFiles.is_unmade: λ _ _. ⊤
+fdref TraceFile.contents: λ s. s.file.contents
+fdref TraceFile.failures: λ s. s.failures
+fdref TraceFile.is_sound: λ s. true
+fdref TraceFile.is_synced: λ s. s.is_synced
 system_lock Front.as_front: λ f. f
 system_lock InRun.as_seat: λ s. s
 system_lock OneBook.marks: λ _ _. ⊤

@@ -60,7 +60,7 @@ from parts.written_traces import (
 )
 from support import plain_model
 from support.auditing import Frames, audited, illegal, legal, shown
-from support.causes import is_caused
+from support.causes import is_caused, trace_lost, unsynced
 from support.counting import FAULTS, Case, Count, require, same
 from support.frames import ERRORS, HEADER_LENGTH, MOST, OLD_MAGIC, header_bytes, trace_of, u32
 from support.options import ONLY, PROGRAM, SEED, asked, count_option
@@ -379,7 +379,8 @@ def without_a_lock(program: str) -> None:
         for path, server in zip(paths, servers, strict=True):
             Client(path, server).vanish()
         for server in servers:
-            same(Ran(4, report(1, 1), b"trace fault\n"), Ran(*outcome_of(server)))
+            told = trace_lost(os.devnull, unsynced("Invalid argument (os error 22)"))
+            same(Ran(4, report(1, 1), told), Ran(*outcome_of(server)))
 
 
 def cannot_make_trace(program: str, trace: str, folder: str) -> None:

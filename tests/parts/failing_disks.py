@@ -1,6 +1,7 @@
 """A live server whose trace cannot be written: all clients are answered, and what is left is a front of the trace."""
 
 import contextlib
+import errno
 import os
 import resource
 import signal
@@ -14,7 +15,7 @@ from typing import NamedTuple
 from parts.written_traces import SHORT
 from support import plain_model
 from support.auditing import audited
-from support.causes import unaccepted
+from support.causes import trace_lost, unaccepted, unsynced
 from support.counting import Case, Failure, require, same
 from support.frames import HEADER_LENGTH, OLD_HEADER_LENGTH, header_bytes, trace_of
 from support.places import SCRATCH
@@ -23,6 +24,12 @@ from support.refusing import build
 from support.serving import SECONDS, Client, Server, report
 
 PAGE = 4_096
+
+# What Linux says of writes and syncs.
+INTERRUPTS, FAULT, INVALID, TOO_LARGE, NO_SPACE = (
+    f"{os.strerror(number)} (os error {number})"
+    for number in (errno.EINTR, errno.EIO, errno.EINVAL, errno.EFBIG, errno.ENOSPC)
+)
 
 
 class Talk(NamedTuple):
@@ -89,10 +96,9 @@ def converse(server: Server, talk: Talk) -> None:
             client.gets(wanted)
 
 
-def ends(server: Server, talk: Talk, kept: int, is_synced: bool) -> None:
-    """The server goes on to its end, and its trace has so many bytes."""
-    is_well = is_synced and kept == len(talk.trace)
-    server.ended(talk.line(kept), 0 if is_well else 4, b"" if is_well else b"trace fault\n")
+def ends(server: Server, talk: Talk, kept: int, said: str = "") -> None:
+    """The server goes on to its end, and its trace has so many bytes. Of the call that failed it tells what was said."""
+    server.ended(talk.line(kept), 4 if said else 0, trace_lost(server.trace, said) if said else b"")
     if os.path.isfile(server.trace):
         left = Path(server.trace).read_bytes()
         require(left == talk.trace[:kept], f"these {len(left)} bytes are not the first {kept} of the trace")
@@ -110,21 +116,21 @@ def is_written_over(program: str) -> None:
         file.flush()
         with Server(program, 1, trace=file.name) as server:
             converse(server, BRIEF)
-            ends(server, BRIEF, len(BRIEF.trace), is_synced=True)
+            ends(server, BRIEF, len(BRIEF.trace))
 
 
 def is_full(program: str) -> None:
     """A device that takes no byte."""
     with Server(program, 1, trace="/dev/full") as server:
         converse(server, BRIEF)
-        ends(server, BRIEF, 0, is_synced=False)
+        ends(server, BRIEF, 0, NO_SPACE)
 
 
 def cannot_be_synced(program: str) -> None:
     """A device that takes all bytes, and does not say that they will stay."""
     with Server(program, 1, trace="/dev/null") as server:
         converse(server, BRIEF)
-        ends(server, BRIEF, len(BRIEF.trace), is_synced=False)
+        ends(server, BRIEF, len(BRIEF.trace), unsynced(INVALID))
 
 
 def two_faults(program: str) -> None:
@@ -159,7 +165,7 @@ def fills_up(program: str, talk: Talk, size: int) -> None:
     """A trace whose file takes so many bytes: they are the first ones."""
     with Server(program, talk.sessions(), before=limited_to(size)) as server:
         converse(server, talk)
-        ends(server, talk, min(size, len(talk.trace)), is_synced=True)
+        ends(server, talk, min(size, len(talk.trace)), TOO_LARGE if size < len(talk.trace) else "")
 
 
 def mounts(folder: str, size: int) -> bool:
@@ -190,7 +196,7 @@ def disk_fills_up(program: str, talk: Talk, size: int) -> None:
             raise Failure("no disk can be mounted any more")
         with Server(program, talk.sessions(), trace=os.path.join(folder, "trace")) as server:
             converse(server, talk)
-            ends(server, talk, min(size, len(talk.trace)), is_synced=True)
+            ends(server, talk, min(size, len(talk.trace)), NO_SPACE if size < len(talk.trace) else "")
 
 
 # ---- a disk that does as it is told
@@ -262,25 +268,26 @@ class Trouble(NamedTuple):
         return {name: str(number) for name, number in numbers.items()}
 
 
-def in_trouble(program: str, library: str, trouble: Trouble, kept: int, is_synced: bool) -> None:
+def in_trouble(program: str, library: str, trouble: Trouble, kept: int, said: str) -> None:
     """A disk that does as it is told: after its first fault nothing more is written."""
     with Server(program, 1, env={**os.environ, "LD_PRELOAD": library, **trouble.environment()}) as server:
         converse(server, BRIEF)
-        ends(server, BRIEF, kept, is_synced)
+        ends(server, BRIEF, kept, said)
 
 
-def troubles() -> Iterator[tuple[str, Trouble, int, bool]]:
-    """What befalls a disk, how many bytes of the trace it takes, and whether it is synced where it takes all."""
+def troubles() -> Iterator[tuple[str, Trouble, int, str]]:
+    """What befalls a disk, how many bytes of the trace it takes, and what is said of that."""
     length = len(BRIEF.trace)
     for number in range(1, length + 2):
-        yield f"write {number} of one byte fails", Trouble(1, number, 1, FULL), number - 1, True
+        said = NO_SPACE if number <= length else ""
+        yield f"write {number} of one byte fails", Trouble(1, number, 1, FULL), number - 1, said
     for number in (1, 24, 25, 47, length):
-        yield f"write {number} of one byte answers 0", Trouble(1, number, 1), number - 1, True
-        yield f"write {number} is interrupted 15 times", Trouble(1, number, 15, INTERRUPTED), length, True
-        yield f"write {number} is interrupted 16 times", Trouble(1, number, 16, INTERRUPTED), number - 1, True
-    yield "the first sync fails", Trouble(syncs=1, sync_error=FAILED), length, False
-    yield "the first sync fails, after many writes", Trouble(1, syncs=1, sync_error=FAILED), length, False
-    yield "a sync is interrupted 100 times", Trouble(syncs=100, sync_error=INTERRUPTED), length, True
+        yield f"write {number} of one byte answers 0", Trouble(1, number, 1), number - 1, "a write took no byte"
+        yield f"write {number} is interrupted 15 times", Trouble(1, number, 15, INTERRUPTED), length, ""
+        yield f"write {number} is interrupted 16 times", Trouble(1, number, 16, INTERRUPTED), number - 1, INTERRUPTS
+    yield "the first sync fails", Trouble(syncs=1, sync_error=FAILED), length, unsynced(FAULT)
+    yield "the first sync fails, after many writes", Trouble(1, syncs=1, sync_error=FAILED), length, unsynced(FAULT)
+    yield "a sync is interrupted 100 times", Trouble(syncs=100, sync_error=INTERRUPTED), length, ""
 
 
 # ---- all of them
@@ -306,5 +313,5 @@ def cases(program: str, stride: int) -> Iterator[Case]:
         yield f"a long trace of {size} bytes at most", partial(fills_up, program, long, size)
     with tempfile.TemporaryDirectory(prefix="fdref-", dir=SCRATCH) as folder:
         library = build(folder, FAILS)
-        for name, trouble, kept, is_synced in troubles():
-            yield f"a disk of which {name}", partial(in_trouble, program, library, trouble, kept, is_synced)
+        for name, trouble, kept, said in troubles():
+            yield f"a disk of which {name}", partial(in_trouble, program, library, trouble, kept, said)

@@ -26,6 +26,16 @@ def without_cause(text: bytes) -> bytes:
     return re.sub(rb"(?<=^cannot listen\n)[^\n]*: no further connection: [^\n]*\n", b"", text)
 
 
+def trace_lost(path: str, said: str) -> bytes:
+    """Standard error of a server whose trace is not whole, by what the system said of a write to it."""
+    return b"trace fault\n%b: %b\n" % (os.fsencode(path), said.encode())
+
+
+def unsynced(said: str) -> str:
+    """What is told where all was written, and the system said this of a sync."""
+    return f"all is written, and cannot be synced: {said}"
+
+
 def is_caused(wanted: Ran, path: str, given: Ran) -> None:
     """A run ended as is wanted, and a line more says what the system said of this path."""
     names_cause(given.stderr, wanted.stderr, path)

@@ -91,7 +91,7 @@ class Server:
             require(self.header.startswith(trace[: frames.HEADER_LENGTH]), f"the trace begins with {trace[:24].hex()}")
             audit = Audit(trace)
             same(legal(int(told[1]), audit.frames.rest), audit.verdict)
-            require(audit.frames.rest == 0 or stderr == b"trace fault\n", "the trace ends in half a record")
+            require(audit.frames.rest == 0 or stderr.startswith(b"trace fault\n"), "the trace ends in half a record")
 
 
 def started(

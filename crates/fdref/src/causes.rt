@@ -1,4 +1,5 @@
-//! What the system said where a path could not be opened, made or listened on, or gave no further connection.
+//! What the system said where a path could not be opened, made or listened on, gave no further connection, or did not take a
+//! whole trace.
 
 use std::alloc::Global;
 use std::cell::RefCell;
@@ -11,6 +12,8 @@ enum Why {
     System(io::Error),
     /// It gave no further connection, and the system said so.
     Unaccepted(io::Error),
+    /// All of a trace was written to it, and the system would not say that it lasts.
+    Unsynced(io::Error),
     /// Another process has locked the file, as a server does that writes its trace there.
     Locked,
 }
@@ -49,6 +52,11 @@ impl Causes {
         self.put(path, Why::Unaccepted(error));
     }
 
+    /// Notes what the system said where a trace was written to a path, and could not be synced.
+    pub fn note_unsynced(&self, path: &str, error: io::Error) {
+        self.put(path, Why::Unsynced(error));
+    }
+
     /// Notes that another process has locked the file at a path.
     pub fn note_locked(&self, path: &str) {
         self.put(path, Why::Locked);
@@ -80,6 +88,12 @@ impl fmt::Display for Causes {
                     why: Why::Unaccepted(error),
                 },
             ) => write!(f, "{path}: no further connection: {error}\n"),
+            Some(
+                Cause {
+                    path,
+                    why: Why::Unsynced(error),
+                },
+            ) => write!(f, "{path}: all is written, and cannot be synced: {error}\n"),
             Some(
                 Cause {
                     path,

@@ -2,9 +2,9 @@
 
 use crate::causes::Causes;
 use crate::perform::Opens;
+use crate::trace_file::{TraceFile, TraceLoss};
 use std::fs::{File, OpenOptions, TryLockError};
 use std::{fs, io};
-use trace_writer::file::FileSink;
 
 /// What Linux says of a read of a directory.
 const EISDIR: i32 = 21;
@@ -62,7 +62,7 @@ impl<'a> Opens for SystemFiles<'a> {
 
     type File = File;
 
-    type Sink = FileSink;
+    type Sink = TraceFile;
 
     type New = File;
 
@@ -82,9 +82,9 @@ impl<'a> Opens for SystemFiles<'a> {
         }
     }
 
-    fn create(&self, path: &str) -> Option<FileSink> {
+    fn create(&self, path: &str) -> Option<TraceFile> {
         match self.writable(path) {
-            Ok(file) => Some(FileSink::new(file)),
+            Ok(file) => Some(TraceFile::new(file)),
             Err(Unmade::System(error)) => {
                 self.causes.note(path, error);
                 None
@@ -103,6 +103,14 @@ impl<'a> Opens for SystemFiles<'a> {
                 self.causes.note(path, error);
                 None
             }
+        }
+    }
+
+    fn note_loss(&self, path: &str, sink: &TraceFile) {
+        match sink.loss() {
+            Some(TraceLoss::Unwritten(error)) => self.causes.note(path, error),
+            Some(TraceLoss::Unsynced(error)) => self.causes.note_unsynced(path, error),
+            None => {}
         }
     }
 }

@@ -6,6 +6,7 @@ mod files;
 mod listener;
 mod perform;
 mod serve;
+mod trace_file;
 
 ghost use Rattle.std.specs.Prelude.{◌≡◌};
 ghost use Rattle.std.specs.Process.{exit_status};

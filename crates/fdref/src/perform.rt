@@ -6,7 +6,7 @@ ghost use Rattle.run_core.specs.Run.{IsBlank};
 ghost use Rattle.fdref.specs.Perform.{Has, ListenEnds, MovesTo, Performs, ServeEnds};
 ghost use Rattle.job_core.specs.Show.{ShowEnds};
 
-use crate::serve::serve_on;
+use crate::serve::{Served, serve_on};
 use call_types::limits::Limits;
 use job_core::audit_file::audit_file;
 use job_core::demand::Demand;
@@ -86,6 +86,9 @@ pub trait Opens {
     fn create_new(&self, path: &str) -> Option<Self::New>
         ensures blank { IfSome result (λ file. IsBlank (Self.New.Write.contents file)) }
         ensures none { IfNone result (is_taken self.now path.now) };
+
+    /// Notes why the file at a path did not take all that was written to it, or may not keep it, if it did not.
+    fn note_loss(&self, path: &str, sink: &Self::Sink);
 }
 
 /// Audits the trace at a path.
@@ -162,11 +165,11 @@ fn serve_at<
     limits: Limits,
     sink: K,
     writer: &mut LoggedWriter<W>,
-) -> JobEnd
+) -> Served<K>
     requires blank { IsBlank (K.contents sink) }
     requires sound { K.is_sound sink ≡ true }
     requires few { K.failures sink + 1 < 2 ^ 64 }
-    ensures { ListenEnds (L.coming_at listens.now path.now) (L.is_unheard listens.now path.now) limits sessions writer.old writer.new result }
+    ensures { ListenEnds (L.coming_at listens.now path.now) (L.is_unheard listens.now path.now) limits sessions writer.old writer.new result.end }
 {
     match listens.listen(path) {
         Some(source) => {
@@ -182,9 +185,19 @@ fn serve_at<
                 writer,
             );
             listens.note(path, &source);
-            served.end
+            served
         }
-        None => JobEnd::CannotListen,
+        None => Served {
+            end: JobEnd::CannotListen,
+            sink: None,
+        },
+    }
+}
+
+/// Notes why the file of a trace did not take it, where a run ended for that.
+fn note_fault<F: Opens>(files: &F, path: &str, served: &Served<F::Sink>) {
+    if let (JobEnd::TraceFault, Some(sink)) = (served.end, &served.sink) {
+        files.note_loss(path, sink);
     }
 }
 
@@ -208,7 +221,11 @@ fn serve_to<
     ensures { ServeEnds (L.coming_at listens.now path.now) (L.is_unheard listens.now path.now) (F.is_unmade files.now trace.now) limits sessions writer.old writer.new result }
 {
     match files.create(trace) {
-        Some(sink) => serve_at(rt, alloc, listens, path, sessions, limits, sink, writer),
+        Some(sink) => {
+            let served = serve_at(rt, alloc, listens, path, sessions, limits, sink, writer);
+            note_fault(files, trace, &served);
+            served.end
+        }
         None => JobEnd::CannotWrite,
     }
 }
