@@ -539,7 +539,7 @@ static void join(void)
 {
     raise_limit();
     process = fdref_begin(socket_path, 1, FDREF_FIRST_ANSWER, FDREF_JOIN, 0);
-    if (!process && errno == ETIMEDOUT)
+    if (!process && (errno == ETIMEDOUT || errno == ECONNRESET))
         end_with(NO_ANSWER, "%s: %s", socket_path, fdref_no_process(errno));
     if (!process)
         end_with(NO_ANSWER, "no server at %s: %s", socket_path, strerror(errno));

@@ -1,5 +1,6 @@
 """Programs of tests/c with the library of clients/preload: what they are given natively, and by a server."""
 
+import contextlib
 import errno
 import os
 import re
@@ -36,7 +37,7 @@ from support.frames import JOIN
 from support.places import C_TESTS
 from support.players import until_traced
 from support.running import Ran, run
-from support.serving import A_WHILE, ALL_RECORDS, SECONDS, Process, Server, outcome_of
+from support.serving import A_WHILE, ALL_RECORDS, SECONDS, Listener, Process, Server, outcome_of
 
 # A program, its words, how many processes it is, and what a shell does before.
 PROGRAMS: list[tuple[str, list[str], int, str]] = [
@@ -467,6 +468,25 @@ def is_without_server(library: Library) -> None:
     same(Ran(NO_ANSWER, b"", told), given.ran)
 
 
+def is_ended_before(library: Library) -> None:
+    """Nor does it where the server ends before its first answer."""
+    listener = Listener()
+
+    def end() -> None:
+        taken, _ = listener.socket.accept()
+        taken.recv(99)
+        taken.close()
+
+    with contextlib.closing(listener):
+        ending = threading.Thread(target=end, daemon=True)
+        ending.start()
+        command = [library.program("preload_numbers"), "mixed"]
+        given = started(library, command, [f"FDREF_SOCKET={listener.path}"])
+        ending.join(SECONDS)
+        told = f"fdref: {listener.path}: the server ended before it had a place for this process\n".encode()
+        same(Given(Ran(NO_ANSWER, b"", told), []), given)
+
+
 def is_without_a_place(program: str, library: Library) -> None:
     """So it is where the server has as many processes as it takes, for a program and for a child of one."""
     with Server(program, 1) as server, Server(program, 1) as other, ThreadPoolExecutor() as pool:
@@ -566,6 +586,7 @@ def endings(program: str, library: Library) -> Iterator[Case]:
     yield f"clone, {library.name}", partial(clones, program, library)
     yield f"handlers of fork, {library.name}", partial(handles_forks, program, library)
     yield f"no server, {library.name}", partial(is_without_server, library)
+    yield f"a server that ends before it answers, {library.name}", partial(is_ended_before, library)
     yield f"no place, {library.name}", partial(is_without_a_place, program, library)
     yield f"a run that is full, {library.name}", partial(is_full, program, library)
     yield f"a server that is gone, {library.name}", partial(is_lost, program, library)
