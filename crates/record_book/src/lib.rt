@@ -13,7 +13,7 @@ pub mod closing;
 pub mod exits;
 mod history;
 mod journal;
-mod moved;
+pub mod moved;
 pub mod opening;
 mod recording;
 mod refusals;

@@ -99,16 +99,17 @@ pub(crate) fn gave(item: &Record) -> u64
     }
 }
 
-/// How many bytes a record took from its process and gave to it.
+/// How many bytes a record took from its process and gave to it, at most 65,700 of each.
 #[derive(Clone, Copy)]
-pub(crate) struct BytesMoved {
-    pub(crate) bytes_in: u64,
-    pub(crate) bytes_out: u64,
+pub struct BytesMoved {
+    pub bytes_in: u64,
+    pub bytes_out: u64,
 }
 
-/// How many bytes a record took and gave. The machine must still be as it was before the record.
+/// How many bytes a record took from its process and gave to it. The machine must still be as it was before the record, which
+/// takes no more than the data of its call, or of the call that its process waits in.
 #[inline(always)]
-pub(crate) fn bytes_moved(machine: &Machine, item: &Record) -> BytesMoved
+pub fn bytes_moved(machine: &Machine, item: &Record) -> BytesMoved
     requires { took machine.now.world item.now ≤ length (data_of machine.now.world item.now.actor item.now.act) }
     ensures bytes_in { result.bytes_in ≡ took machine.now.world item.now }
     ensures bytes_out { (w : World) → result.bytes_out ≡ gave w item.now }
