@@ -7,6 +7,7 @@ pub mod kernel;
 pub mod lock;
 mod lost;
 pub mod one_book;
+mod others;
 mod past;
 pub mod run;
 pub mod run_seat;

@@ -10,6 +10,7 @@ use crate::kernel::{
     Admission, AdmissionTo, Ended, EndedIn, Finished, FinishedIn, Kernel, KernelOf, NotOpened,
     NotOpenedIn, OpenedIn, Why,
 };
+use crate::others::run_acts;
 use crate::run::Run;
 use crate::run_seat::{InRun, RunSeat, SpentRunSeat, opened_in};
 use crate::watch::Marked;
@@ -75,7 +76,7 @@ fn finish<L: Run>(
         Tried::Still(seat) => seat,
     };
     let ready = mem::replace(&mut held.acts, Vec::new(alloc));
-    let _told = held.book.run_acts(alloc, ready.as_slice());
+    run_acts(&mut held.book, alloc, ready);
     match acts::resume(&mut held.book, alloc, seat) {
         Tried::Resumed { seat, receipt } => Finished::Resumed { seat, receipt },
         Tried::Ended(ended) => Finished::Ended(ended),
