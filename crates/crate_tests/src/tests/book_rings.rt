@@ -3,44 +3,50 @@
 ghost use Rattle.std.specs.Prelude.{◌≡◌};
 
 use byte_ledger::ledgers::{Blanks, Ledgers};
-use call_types::act::{Record, ScriptAct};
+use call_types::act::Record;
 use call_types::bounded::Data;
 use call_types::call::Call;
 use call_types::limits::Limits;
 use record_book::book::Book;
 use record_book::closing::ClosedBook;
-use std::alloc::{AllocError, Global};
+use record_book::opening::Opened;
+use record_book::seat::Seat;
+use std::alloc::Global;
 use std::marker::Brand;
 use std::process::Abort;
 use std::test::Fail;
 use trace_ring::trace_ring::TraceEnd;
 
-/// A call of process 0.
-fn of_first(call: Call) -> ScriptAct {
-    ScriptAct::Call { process: 0, call }
+/// Whether the process of a seat makes a pipe, writes three bytes into it, reads two of them, and makes a child.
+fn pipes_and_forks<L: Ledgers>(alloc: Global, book: &mut Book<L>, seat: &mut Seat<L>) -> bool {
+    let bytes = match Data::copied(alloc, b"abc") {
+        Ok(bytes) => bytes,
+        Err(_) => return false,
+    };
+    book.start(alloc, seat, Call::Pipe).is_ok()
+        && book
+            .start(alloc, seat, Call::Write { fd: 1, bytes })
+            .is_ok()
+        && book
+            .start(alloc, seat, Call::Read { fd: 0, count: 2 })
+            .is_ok()
+        && book.start(alloc, seat, Call::Fork).is_ok()
 }
 
-/// A script of seven acts. Its closing ends a child without a connection, so it makes eight records; three bytes are written, and two of
+/// Records seven acts. The closing ends a child without a connection, so they make eight records; three bytes are written, and two of
 /// them read.
-fn script(alloc: Global) -> Result<Vec<ScriptAct>, AllocError> {
-    let bytes = Data::copied(alloc, b"abc")?;
-    let acts = vec![in alloc;
-        ScriptAct::Join,
-        of_first(Call::Pipe),
-        of_first(Call::Write { fd: 1, bytes }),
-        of_first(Call::Read { fd: 0, count: 2 }),
-        of_first(Call::Fork),
-        ScriptAct::Exit { process: 0 },
-        ScriptAct::CloseRun,
-    ]?;
-    Ok(acts)
-}
-
-/// Runs the script.
-fn run<L: Ledgers>(alloc: Global, book: &mut Book<L>) -> Result<(), AllocError> {
-    let acts = script(alloc)?;
-    let _told = book.run_acts(alloc, acts.as_slice())?;
-    Ok(())
+fn run<L: Ledgers>(alloc: Global, book: &mut Book<L>) -> Result<(), Fail> {
+    let mut seat = match book.join(alloc) {
+        Ok(Opened::Seated(seat)) => seat,
+        _ => return Err("there is room for a process")?,
+    };
+    if pipes_and_forks(alloc, book, &mut seat)
+        && book.exit(seat).is_ok()
+        && book.close_run().is_some()
+    {
+        return Ok(());
+    }
+    Err("each act is recorded")?
 }
 
 /// Whether the next record out of a ring is this one.
@@ -64,7 +70,7 @@ fn sums<L: Ledgers>(book: &ClosedBook<L>) -> (u64, u64, u64) {
     (counts.records, counts.bytes_in, counts.bytes_out)
 }
 
-/// Whether the book of the script is closed, and all its records come out of its ring.
+/// Whether the book of these acts is closed, and all its records come out of its ring.
 fn is_traced<L: Ledgers>(ended: &Result<ClosedBook<L>, Book<L>>, end: &mut TraceEnd) -> bool {
     match ended {
         Ok(closed) => sums(closed) == (8, 3, 2) && closed.len() == 8 && has_all(end, closed),
@@ -91,7 +97,7 @@ fn taken_end<L: Ledgers>(rt: &impl Abort, book: &mut Book<L>) -> Result<TraceEnd
     }
 }
 
-/// Runs the script to its closing, or only a join, and returns the reading end, which is taken before.
+/// Records those acts to the closing, or only a join, and returns the reading end, which is taken before.
 fn gone_on<L: Ledgers>(
     rt: &impl Abort,
     alloc: Global,
