@@ -1,0 +1,8 @@
+pub mod HereLemmas
+pub mod CallLemmas
+pub mod PlanLemmas
+pub mod RunLemmas
+pub mod SeatLemmas
+pub mod FitsLemmas
+pub mod GoingLemmas
+pub mod ClosingLemmas
