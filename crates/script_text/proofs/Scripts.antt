@@ -8,7 +8,7 @@ use Rattle.script_text.specs.declared.fault.ScriptFault.{ScriptFault}
 use Rattle.script_text.specs.declared.fault.ScriptFault.TheVariants as faults
 use Rattle.script_text.specs.Reading.{◌>>=◌, Unread, cut, onto}
 use Rattle.script_text.specs.ReadingScripts.{numbered, line_acts, lines_acts, followed, left_lines, left_size}
-use Rattle.script_text.specs.ReadingCalls.{reading}
+use Rattle.script_text.specs.ReadingCalls.{BadColumn, reading}
 use Rattle.script_text.specs.ReadingResults.{ScriptFails}
 
 -- the lines of a script
@@ -62,3 +62,8 @@ fails faults.TooLong n bytes line after e some is = fault_first faults.TooLong n
 pub size_falls : (o : Option (Bor (List ℕ))) (n : ℕ) → IfSome o (λ rest. length rest.now < n) → left_size (option_copied o) ≤ n
 size_falls None n h = omega arith
 size_falls (Some rest) n h = omega arith
+
+-- the line of an act is read as it
+pub act_read : (n : ℕ) (read : Result ScriptAct BadColumn) (act : ScriptAct) → numbered n read ≡ Ok (act ∷ []) → read ≡ Ok act
+act_read n (Ok found) act e = let is : found ≡ act = cc in ap (λ (a : ScriptAct). Ok a) is
+act_read n (Err bad) act e = absurd cc

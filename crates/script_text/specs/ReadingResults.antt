@@ -1,7 +1,7 @@
 -- What a reader returns, where memory may run out (own).
 use Rattle.std.specs.Prelude.{◌≡◌, ◌≤◌, ℕ, List, [], ◌∷◌, length, Option, Some, None, Result, Ok, Err}
 use Rattle.call_types.specs.declared.act.ScriptAct.{ScriptAct}
-use Rattle.script_text.specs.ReadingCalls.{BadColumn}
+use Rattle.script_text.specs.ReadingCalls.{BadColumn, reading}
 use Rattle.script_text.specs.ReadingScripts.{script, followed, Rest}
 use Rattle.script_text.specs.declared.script.TheConstants.{SCRIPT_MAX}
 use Rattle.script_text.specs.declared.fault.ReadFault.{ReadFault}
@@ -31,3 +31,9 @@ abbrev pub NextGives : Result (List ScriptAct) ScriptFault → Result (List Scri
 NextGives old new (Ok None) = (old ≡ Ok []) × (new ≡ Ok [])
 NextGives old new (Ok (Some act)) = old ≡ followed (act ∷ []) new
 NextGives old new (Err fault) = ScriptFails fault old
+
+-- the next act was read from this line
+abbrev pub NextIsFrom : List ℕ → Result (Option ScriptAct) ScriptFault → Type 0
+NextIsFrom line (Ok None) = Unit {0}
+NextIsFrom line (Ok (Some act)) = reading line ≡ Ok act
+NextIsFrom line (Err fault) = Unit {0}

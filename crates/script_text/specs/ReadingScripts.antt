@@ -46,15 +46,16 @@ abbrev pub left_size : Unread → ℕ
 left_size None = 0
 left_size (Some bytes) = length bytes + 1
 
--- what is left of a script: its acts or its first fault, and how many lines it has at most
+-- what is left of a script: its acts or its first fault, and how many lines it has at most; and the line that was read last
 pub record Rest : Type 0 where
   pub read : Result (List ScriptAct) ScriptFault
   pub most : ℕ
+  pub line : List ℕ
 
 -- the acts of what is left after so many lines, or the first fault
 abbrev pub left_acts : ℕ → Unread → Result (List ScriptAct) ScriptFault
 left_acts number left = lines_acts (number + 1) (left_lines left)
 
--- what is left after so many lines
-abbrev pub rest_of : ℕ → Unread → Rest
-rest_of number left = record { read = left_acts number left; most = left_size left }
+-- what is left after so many lines, of which this is the last
+abbrev pub rest_of : ℕ → Unread → List ℕ → Rest
+rest_of number left line = record { read = left_acts number left; most = left_size left; line = line }

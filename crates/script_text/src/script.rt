@@ -4,7 +4,7 @@ ghost use Rattle.std.specs.Prelude.{◌≡◌, ◌<◌, ◌∷◌, [], true, is_
 ghost use Rattle.script_text.specs.ReadingCalls.{reading};
 ghost use Rattle.script_text.specs.ReadingScripts.{numbered};
 ghost use Rattle.call_types.specs.declared.act.ScriptAct.{ScriptAct};
-ghost use Rattle.script_text.specs.ReadingResults.{Opens, NextGives};
+ghost use Rattle.script_text.specs.ReadingResults.{Opens, NextGives, NextIsFrom};
 ghost use Rattle.script_text.specs.Proved.Scripts.{ScriptGives};
 
 use crate::common::common_act;
@@ -19,12 +19,14 @@ use std::marker::Model;
 pub const SCRIPT_MAX: usize = 16_777_216;
 
 /// What is left of a script. Contracts see the acts that are still to be read, or the first fault of the lines that are left,
-/// and how many lines there are at most.
+/// how many lines there are at most, and the line that was read last.
 #[derive(Debug, Drop)]
 pub struct Script<'a> {
     /// How many lines were read.
     number: usize,
     left: Unread<'a>,
+    /// The line that was read last.
+    line: &'a [u8],
 }
 
 impl<'a> Model for Script<'a> {
@@ -35,7 +37,7 @@ impl<'a> Model for Script<'a> {
 
     ghost Value = { Rest };
 
-    ghost view = { λ script. rest_of script.number (option_copied script.left) };
+    ghost view = { λ script. rest_of script.number (option_copied script.left) script.line.now };
 
     ghost invariant = { λ script. script.number + left_size (option_copied script.left) ≤ SCRIPT_MAX + 1 };
 }
@@ -69,7 +71,15 @@ impl<'a> Script<'a> {
         Ok(Script {
             number: 0,
             left: Some(text),
+            line: b"",
         })
+    }
+
+    /// The line, without its LF, from which the last act was read; where `next_act` has read none, the line is empty.
+    pub fn line(&self) -> &'a [u8]
+        ensures { result.now ≡ self.now.line }
+    {
+        self.line
     }
 
     /// Reads the next act; `None` at the end of the script. A fault is a line that is no act, with its number from 1 and its
@@ -77,11 +87,13 @@ impl<'a> Script<'a> {
     pub fn next_act(&mut self, alloc: Global) -> Result<Option<ScriptAct>, ScriptFault>
         ensures gives { NextGives self.old.read self.new.read result }
         ensures shorter { IfOk result (λ next. is_some next ≡ true → self.new.most < self.old.most) }
+        ensures line { NextIsFrom self.new.line result }
     {
         while let Some(rest) = self.left {
             let (line, after) = cut_at(b'\n', rest);
             self.number += 1;
             self.left = after;
+            self.line = line;
             if !line.is_empty() {
                 // A match, since `?` would move the act once more.
                 match line_act(alloc, self.number, line) {

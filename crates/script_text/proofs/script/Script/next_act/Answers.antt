@@ -1,7 +1,8 @@
 use Rattle.std.proofs.Common.{◌+◌, ap, sym, ◌∙◌, arith}
 use Rattle.std.specs.Option.{option_copied}
+use Rattle.script_text.specs.ReadingCalls.{reading}
 use Rattle.script_text.specs.ReadingScripts.{left_size}
-use Rattle.script_text.proofs.Scripts.{empty_line, act_first, fails, size_falls}
+use Rattle.script_text.proofs.Scripts.{empty_line, act_first, act_read, fails, size_falls}
 use Rattle.script_text.proofs.script.Script.next_act.Goals as goal
 
 pub returns-in-Err-clause-gives : goal.returns-in-Err-clause-gives
@@ -26,3 +27,6 @@ loop-self-preserved c =
 pub returns-in-Ok-clause-shorter : goal.returns-in-Ok-clause-shorter
 returns-in-Ok-clause-shorter c = λ there.
     omega (arith, c.loop-self.invariant.fewer, ap (λ o. left_size (option_copied o)) c.in-Some.is, size_falls c.cut_at.result.1 _ c.cut_at.ensures.shorter)
+
+pub returns-in-Ok-clause-line : goal.returns-in-Ok-clause-line
+returns-in-Ok-clause-line c = act_read (c.loop-self.self-inside.number + 1) (reading c.cut_at.result.0.now) c.in-Ok.act c.in-Ok.ensures
