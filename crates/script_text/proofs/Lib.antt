@@ -17,6 +17,7 @@ pub mod CallParts
 pub mod CallLaws
 pub mod WrittenWords
 pub mod RoundTrip
+pub mod AsWritten
 pub mod ScriptLaws
 pub mod Rooms
 pub mod NumbersAhead

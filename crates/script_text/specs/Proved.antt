@@ -2,6 +2,7 @@ pub mod CallRows
 pub mod Room
 pub mod Ahead
 pub mod Asked
+pub mod Copied
 pub mod Decoded
 pub mod Digits
 pub mod Scripts

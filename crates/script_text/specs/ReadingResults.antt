@@ -1,6 +1,9 @@
 -- What a reader returns, where memory may run out (own).
 use Rattle.std.specs.Prelude.{◌≡◌, ◌≤◌, ℕ, List, [], ◌∷◌, length, Option, Some, None, Result, Ok, Err}
 use Rattle.call_types.specs.declared.act.ScriptAct.{ScriptAct}
+use Rattle.call_types.specs.declared.act.ScriptAct.TheVariants as asked
+use Rattle.call_types.specs.declared.act.Act.{Act}
+use Rattle.call_types.specs.declared.act.Act.TheVariants as acts
 use Rattle.script_text.specs.ReadingCalls.{BadColumn, reading}
 use Rattle.script_text.specs.ReadingScripts.{script, followed, Rest}
 use Rattle.script_text.specs.declared.script.TheConstants.{SCRIPT_MAX}
@@ -37,3 +40,12 @@ abbrev pub NextIsFrom : List ℕ → Result (Option ScriptAct) ScriptFault → T
 NextIsFrom line (Ok None) = Unit {0}
 NextIsFrom line (Ok (Some act)) = reading line ≡ Ok act
 NextIsFrom line (Err fault) = Unit {0}
+
+-- a line is read as this act of this process; of a join and of the closing, which no process makes, nothing is said
+abbrev pub IsReadAs : List ℕ → ℕ → Act → Type 0
+IsReadAs line actor acts.Join = Unit {0}
+IsReadAs line actor acts.Attach = reading line ≡ Ok (asked.Attach actor)
+IsReadAs line actor (acts.Call call) = reading line ≡ Ok (asked.Call actor call)
+IsReadAs line actor acts.Resume = reading line ≡ Ok (asked.Resume actor)
+IsReadAs line actor acts.Exit = reading line ≡ Ok (asked.Exit actor)
+IsReadAs line actor acts.CloseRun = Unit {0}

@@ -5,6 +5,7 @@ mod ahead;
 pub mod answers;
 mod calls;
 mod common;
+mod copies;
 mod cutting;
 pub mod fault;
 mod fields;

@@ -2,11 +2,14 @@
 
 ghost use Rattle.std.specs.Prelude.{◌≡◌, ◌≤◌, ◌+◌, ◌-◌, ◌++◌, length, ◌<◌, ◌^◌};
 ghost use Rattle.call_types.specs.Writing.{Appends};
+ghost use Rattle.script_text.specs.ReadingResults.{IsReadAs};
 ghost use Rattle.script_text.specs.Lines.{actor_word, act_line, act_text, outcome_text, record_line, script_act_text, script_actor_word, refused_line, still_line, refusal_word, totals_line};
 ghost use Rattle.script_text.specs.Proved.Asked.{asked_of};
+ghost use Rattle.script_text.specs.Proved.Copied.{copied_line};
 ghost use Rattle.script_text.specs.Proved.Room.{HasRoom, UsesRoom, act_room, call_room, script_act_room, outcome_room};
 
 use crate::calls::{CALL_ROOM, put_call, room_of_call};
+use crate::copies::is_as_written;
 use crate::outcomes::{OUTCOME_ROOM, put_outcome, room_of_outcome};
 use crate::put::{FIELD_ROOM, put, put_number, put_process};
 use call_types::act::{Act, Record, ScriptAct};
@@ -85,6 +88,53 @@ pub fn write_record(out: &mut Vec<u8>, place: u64, record: &Record) -> Result<()
     out.reserve(LINE_ROOM + room_of_act(&record.act) + room_of_outcome(&record.outcome))?;
     put_record(out, place, record);
     Ok(())
+}
+
+/// Appends the line of the record at a place, with its LF, by the line of the script that asked for it, for which there is room.
+fn put_copied(out: &mut Vec<u8>, place: u64, line: &[u8], outcome: &Outcome)
+    requires { HasRoom out.old (LINE_ROOM + (length line.now + outcome_room outcome.now)) }
+    ensures { out.new.items ≡ out.old.items ++ copied_line place line.now outcome.now }
+{
+    put_number(out, place);
+    out.push_reserved(b' ');
+    put(out, line);
+    put(out, b" = ");
+    put_outcome(out, outcome);
+    out.push_reserved(b'\n');
+}
+
+/// Appends the line of the record at a place, with its LF, by the line of the script that asked for it.
+fn write_copied(
+    out: &mut Vec<u8>,
+    place: u64,
+    line: &[u8],
+    outcome: &Outcome,
+) -> Result<(), AllocError>
+    // The line stands after the old bytes; where memory runs out these are still the front.
+    ensures { Appends result out.old.items out.new.items (copied_line place line.now outcome.now) }
+{
+    out.reserve(LINE_ROOM + line.len() + room_of_outcome(outcome))?;
+    put_copied(out, place, line, outcome);
+    Ok(())
+}
+
+/// Appends the line of the record at a place, with its LF, as `write_record` does. It copies the line of the script, without its
+/// LF, that was read as the record's act, unless the act might be written otherwise than it is spelled there.
+pub fn write_record_as_read(
+    out: &mut Vec<u8>,
+    place: u64,
+    line: &[u8],
+    record: &Record,
+) -> Result<(), AllocError>
+    requires { IsReadAs line.now «record».now.actor «record».now.act }
+    // The line stands after the old bytes; where memory runs out these are still the front.
+    ensures { Appends result out.old.items out.new.items (record_line place «record».now) }
+{
+    if is_as_written(line, &record.act) {
+        write_copied(out, place, line, &record.outcome)
+    } else {
+        write_record(out, place, record)
+    }
 }
 
 /// Appends an outcome, as the line of a record has it.

@@ -21,7 +21,7 @@ use hex::encode_to_slice;
 use std::alloc::{AllocError, Global};
 
 /// Data of so many bytes at most is written out, even where all of them are the same.
-const WRITTEN_OUT_MAX: usize = 16;
+pub(crate) const WRITTEN_OUT_MAX: usize = 16;
 
 /// Bytes of data that is written as a byte and a count, at most.
 const REPEATED_ROOM: usize = 23;
@@ -170,7 +170,7 @@ fn all_are(byte: u8, bytes: &[u8]) -> bool
 }
 
 /// The byte of data that is written as a byte and a count: more than 16 bytes, all the same. `None` for other data.
-fn repeated_byte(bytes: &[u8]) -> Option<u8>
+pub(crate) fn repeated_byte(bytes: &[u8]) -> Option<u8>
     ensures { result ≡ one_byte bytes.now }
 {
     match bytes {
