@@ -6,15 +6,18 @@ use Rattle.std.proofs.lemmas.List.{append_assoc, append-nil}
 use Rattle.std.proofs.lemmas.Grind.{flat_map-append}
 use Rattle.call_types.specs.declared.act.ScriptAct.{ScriptAct}
 use Rattle.call_types.specs.declared.limits.Limits.{Limits}
+use Rattle.script_text.specs.Lines.{totals_line}
 use Rattle.script_text.specs.ReadingScripts.{script, script_acts, followed}
 use Rattle.script_text.specs.declared.fault.Expected.{Expected}
 use Rattle.script_text.specs.declared.script.TheConstants.{SCRIPT_MAX}
 use Rattle.text_forms.specs.Scripts.{hash, plain_script}
 use Rattle.script_text.specs.ReadingResults.{ScriptFails, NextGives}
 use Rattle.script_text.specs.declared.fault.ScriptFault.{ScriptFault}
-use Rattle.record_book.specs.Book.{BookState, new_book}
-use Rattle.record_book.specs.Runs.{RunTells, Seats}
-use Rattle.record_book.specs.declared.run.ScriptAnswer.{ScriptAnswer}
+use Rattle.record_book.specs.Book.{new_book}
+use Rattle.byte_ledger.specs.declared.tallies.Sums.{Sums}
+use Rattle.script_run.specs.RunState.{RunState}
+use Rattle.script_run.specs.Fits.{FitsRun, IsCounted}
+use Rattle.script_run.specs.declared.told.ScriptAnswer.{ScriptAnswer}
 use Rattle.script_text.specs.Spellings.{SpellsScript}
 use Rattle.script_text.specs.declared.fault.ScriptFault.TheVariants as faults
 use Rattle.posix_model.specs.History.{legal}
@@ -43,34 +46,37 @@ lines_next : (told : List ScriptAnswer) (one : ScriptAnswer) → told_lines (tol
 lines_next told one = flat_map-append told_line told (one ∷ []) ∙ ap (λ l. told_lines told ++ l) (append-nil (told_line one))
 
 -- at first nothing was read
-pub runs_none : (read : Result (List ScriptAct) ScriptFault) (book : BookState) (seats : Seats) (lines : List ℕ) → RunsOn read read book book seats seats lines lines
-runs_none read book seats lines = record {
+pub runs_none : (read : Result (List ScriptAct) ScriptFault) (run : RunState) (lines : List ℕ) → RunsOn read read run run lines lines
+runs_none read run lines = record {
   acts = [];
   told = [];
   is_read = sym (followed_none read);
-  runs = (refl, record { book = refl; seats_are = refl });
+  runs = λ b seats fits. record { book = b; seats_are = seats; fits = fits; tells = (refl, record { book = refl; seats_are = refl }) };
   limits_are = refl;
   lines_are = sym (append-nil lines);
 }
 
 -- one act more was read and run
-pub runs_one_more : (read rest last : Result (List ScriptAct) ScriptFault) (first book new : BookState) (none seats after : Seats) (before lines more : List ℕ) (act : ScriptAct)
-    → RunsOn read rest first book none seats before lines → rest ≡ followed (act ∷ []) last → RunsNext book new seats after act lines more → RunsOn read last first new none after before more
-runs_one_more read rest last first book new none seats after before lines more act so_far is_next next = record {
+pub runs_one_more : (read rest last : Result (List ScriptAct) ScriptFault) (first run new : RunState) (before lines more : List ℕ) (act : ScriptAct)
+    → RunsOn read rest first run before lines → rest ≡ followed (act ∷ []) last → RunsNext run new act lines more → RunsOn read last first new before more
+runs_one_more read rest last first run new before lines more act so_far is_next next = record {
   acts = so_far.acts ++ act ∷ [];
   told = so_far.told ++ next.told ∷ [];
   is_read = so_far.is_read ∙ ap (followed so_far.acts) is_next ∙ followed_on so_far.acts (act ∷ []) last;
-  runs = next.goes_on first none so_far.acts so_far.told so_far.runs;
+  runs = λ b seats fits.
+      let now = so_far.runs b seats fits in
+      let then_on = next.runs now.book now.seats_are now.fits in
+      record { book = then_on.book; seats_are = then_on.seats_are; fits = then_on.fits; tells = then_on.goes_on b seats so_far.acts so_far.told now.tells };
   limits_are = next.limits_are ∙ so_far.limits_are;
   lines_are = next.lines_are ∙ ap (λ l. l ++ told_line next.told) so_far.lines_are ∙ append_assoc before (told_lines so_far.told) (told_line next.told) ∙ ap (λ l. before ++ l) (sym (lines_next so_far.told next.told));
 }
 
 -- a fault of the rest is one of all
-pub fails_so_far : (read rest : Result (List ScriptAct) ScriptFault) (first book : BookState) (none seats : Seats) (before lines : List ℕ) (fault : ScriptFault)
-    → RunsOn read rest first book none seats before lines → ScriptFails fault rest → ScriptFails fault read
-fails_so_far read rest first book none seats before lines faults.NoMemory so_far fails = tt
-fails_so_far read rest first book none seats before lines (faults.BadLine line column expected) so_far fails = so_far.is_read ∙ ap (followed so_far.acts) fails
-fails_so_far read rest first book none seats before lines faults.TooLong so_far fails = so_far.is_read ∙ ap (followed so_far.acts) fails
+pub fails_so_far : (read rest : Result (List ScriptAct) ScriptFault) (first run : RunState) (before lines : List ℕ) (fault : ScriptFault)
+    → RunsOn read rest first run before lines → ScriptFails fault rest → ScriptFails fault read
+fails_so_far read rest first run before lines faults.NoMemory so_far fails = tt
+fails_so_far read rest first run before lines (faults.BadLine line column expected) so_far fails = so_far.is_read ∙ ap (followed so_far.acts) fails
+fails_so_far read rest first run before lines faults.TooLong so_far fails = so_far.is_read ∙ ap (followed so_far.acts) fails
 
 -- no act was read, so none is left
 pub nothing_left : (read rest : Result (List ScriptAct) ScriptFault) (next : Option ScriptAct) → ((act : ScriptAct) → next ≡ Some act → ⊥) → NextGives read rest (Ok next) → read ≡ Ok []
@@ -78,34 +84,43 @@ nothing_left read rest None none gives = gives.0
 nothing_left read rest (Some act) none gives = absurd (none act refl)
 
 -- at the end all acts were run, and the lines with that of the totals are their output
-pub run_ends : (read : Result (List ScriptAct) ScriptFault) (first book : BookState) (none seats : Seats) (before lines output : List ℕ)
-    → RunsOn read (Ok []) first book none seats before lines → none ≡ [] → before ≡ [] → legal book.limits.bounds book.history → output ≡ lines ++ last_line book → Gathers read first book output
-run_ends read first book none seats before lines output so_far is_none is_before sound is = record {
+pub run_ends : (read : Result (List ScriptAct) ScriptFault) (first run : RunState) (before lines output : List ℕ) (sums : Sums)
+    → RunsOn read (Ok []) first run before lines → before ≡ [] → IsCounted run sums → output ≡ lines ++ totals_line sums.records sums.bytes_in sums.bytes_out → Gathers read first output
+run_ends read first run before lines output sums so_far is_before counted is = record {
   acts = so_far.acts;
-  told = so_far.told;
-  seats = seats;
   is_read = so_far.is_read ∙ ap (λ l. Ok l) (append-nil so_far.acts);
-  runs = subst (λ s. RunTells first book s seats so_far.acts so_far.told) is_none so_far.runs;
-  limits_are = so_far.limits_are;
-  is_legal = sound;
-  output_is = is ∙ ap (λ l. l ++ last_line book) (so_far.lines_are ∙ ap (λ l. l ++ told_lines so_far.told) is_before);
+  outputs = λ b seats fits.
+      let all = so_far.runs b seats fits in
+      let counts = counted all.book all.seats_are all.fits in
+      let same : all.book.limits ≡ b.limits = all.fits.leads.limits ∙ (so_far.limits_are ∙ sym fits.leads.limits) in
+      let last : totals_line sums.records sums.bytes_in sums.bytes_out ≡ last_line all.book = rw (counts.records, counts.bytes_in, counts.bytes_out) refl in
+      let told : lines ≡ told_lines so_far.told = so_far.lines_are ∙ ap (λ l. l ++ told_lines so_far.told) is_before in
+      record {
+        told = so_far.told;
+        book = all.book;
+        seats_are = all.seats_are;
+        runs = all.tells;
+        is_legal = subst (λ (l : Limits). legal l.bounds all.book.history) same counts.is_legal;
+        output_is = is ∙ (ap (λ l. l ++ totals_line sums.records sums.bytes_in sums.bytes_out) told ∙ ap (λ l. told_lines so_far.told ++ l) last);
+      };
 }
 
--- what was gathered of a script in a new book is its output
-pub output_of : (limits : Limits) (text : List ℕ) (read : Result (List ScriptAct) ScriptFault) (first book : BookState) (output : List ℕ)
-    → Gathers read first book output → read ≡ script text → first ≡ new_book limits → RunsScript limits text output
-output_of limits text read first book output all is_text is_new = (
-  all.acts,
-  sym is_text ∙ all.is_read,
-  record {
-    told = all.told;
-    book = book;
-    seats = all.seats;
-    runs = subst (λ b. RunTells b book [] all.seats all.acts all.told) is_new all.runs;
-    is_legal = subst (λ l. legal l.bounds book.history) (all.limits_are ∙ ap (λ b. b.limits) is_new) all.is_legal;
-    output_is = all.output_is;
-  },
-)
+-- what was gathered of a script in a new run is its output
+pub output_of : (limits : Limits) (text : List ℕ) (read : Result (List ScriptAct) ScriptFault) (first : RunState) (output : List ℕ)
+    → Gathers read first output → read ≡ script text → FitsRun (new_book limits) [] first → RunsScript limits text output
+output_of limits text read first output all is_text fits =
+    let from = all.outputs (new_book limits) [] fits in (
+      all.acts,
+      sym is_text ∙ all.is_read,
+      record {
+        told = from.told;
+        book = from.book;
+        seats = from.seats_are;
+        runs = from.runs;
+        is_legal = from.is_legal;
+        output_is = from.output_is;
+      },
+    )
 
 -- ---- what is said of it
 

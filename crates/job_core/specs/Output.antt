@@ -8,8 +8,8 @@ use Rattle.posix_model.specs.Turns.{bytes_in, bytes_out}
 use Rattle.script_text.specs.Lines.{record_line, refused_line, still_line, totals_line}
 use Rattle.record_book.specs.Seat.{Receipted}
 use Rattle.record_book.specs.Book.{BookState}
-use Rattle.record_book.specs.declared.run.ScriptAnswer.{ScriptAnswer}
-use Rattle.record_book.specs.declared.run.ScriptAnswer.TheVariants.{Recorded, Closed, Still, Refused}
+use Rattle.script_run.specs.declared.told.ScriptAnswer.{ScriptAnswer}
+use Rattle.script_run.specs.declared.told.ScriptAnswer.TheVariants.{Recorded, Closed, Still, Refused}
 use Rattle.job_core.specs.declared.job_end.JobEnd.{JobEnd}
 use Rattle.job_core.specs.declared.job_end.JobEnd.TheVariants as ended
 
@@ -21,8 +21,8 @@ receipt_line receipt = record_line receipt.place receipt.record_is
 abbrev pub told_line : ScriptAnswer → List ℕ
 told_line (Recorded receipt) = receipt_line receipt
 told_line (Closed receipts) = flat_map receipt_line receipts.items
-told_line (Still actor act) = still_line actor act.now
-told_line (Refused actor act refusal) = refused_line actor act.now refusal
+told_line (Still actor act) = still_line actor act
+told_line (Refused actor act refusal) = refused_line actor act refusal
 
 -- the lines of all that is told
 abbrev pub told_lines : List ScriptAnswer → List ℕ

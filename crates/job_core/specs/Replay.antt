@@ -14,8 +14,8 @@ use Rattle.script_text.specs.declared.script.TheConstants.{SCRIPT_MAX}
 use Rattle.text_forms.specs.Scripts.{hash, plain_script, quote, source_column, strung}
 use Rattle.text_forms.specs.declared.scripts.Lines.TheVariants as lines
 use Rattle.record_book.specs.Book.{BookState, new_book}
-use Rattle.record_book.specs.Runs.{RunTells, Seats}
-use Rattle.record_book.specs.declared.run.ScriptAnswer.{ScriptAnswer}
+use Rattle.script_run.specs.Runs.{RunTells, Seats}
+use Rattle.script_run.specs.declared.told.ScriptAnswer.{ScriptAnswer}
 use Rattle.job_core.specs.Output.{AppendsFront, last_line, told_lines}
 use Rattle.job_core.specs.declared.job_end.JobEnd.{JobEnd}
 use Rattle.job_core.specs.declared.job_end.JobEnd.TheVariants as ended

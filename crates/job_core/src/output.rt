@@ -6,29 +6,28 @@ ghost use Rattle.job_core.specs.Output.{AppendsFront, receipt_line, told_line};
 
 use crate::job_end::JobEnd;
 use logged_streams::writer::LoggedWriter;
-use record_book::run::ScriptAnswer;
-use record_book::seat::Receipt;
+use script_run::told::{ScriptAnswer, Told};
 use script_text::lines::{write_record, write_refused, write_still};
 use std::alloc::AllocError;
 use std::io::Write;
 
-/// Gathers the lines of receipts.
-fn put_receipts(out: &mut Vec<u8>, receipts: &[Receipt]) -> Result<(), AllocError>
-    ensures { OnOk result (out.new.items ≡ out.old.items ++ flat_map receipt_line receipts.now) }
+/// Gathers the lines of records.
+fn put_records(out: &mut Vec<u8>, records: &[Told]) -> Result<(), AllocError>
+    ensures { OnOk result (out.new.items ≡ out.old.items ++ flat_map receipt_line records.now) }
 {
-    for receipt in receipts {
-        write_record(out, receipt.place(), receipt.record())?;
+    for told in records {
+        write_record(out, told.place(), told.record())?;
     }
     Ok(())
 }
 
 /// Gathers the lines of what is told of an act.
-pub(crate) fn put_line(out: &mut Vec<u8>, told: &ScriptAnswer<'_>) -> Result<(), AllocError>
+pub(crate) fn put_line(out: &mut Vec<u8>, told: &ScriptAnswer) -> Result<(), AllocError>
     ensures { OnOk result (out.new.items ≡ out.old.items ++ told_line told.now) }
 {
     match told {
-        ScriptAnswer::Recorded(receipt) => write_record(out, receipt.place(), receipt.record()),
-        ScriptAnswer::Closed(receipts) => put_receipts(out, receipts.as_slice()),
+        ScriptAnswer::Recorded(told) => write_record(out, told.place(), told.record()),
+        ScriptAnswer::Closed(records) => put_records(out, records.as_slice()),
         ScriptAnswer::Still { actor, act } => write_still(out, *actor, act),
         ScriptAnswer::Refused {
             actor,

@@ -14,23 +14,19 @@ ghost use Rattle.script_text.specs.declared.fault.ScriptFault.{ScriptFault};
 use crate::job_end::JobEnd;
 use crate::output::{put_line, write_lines};
 use crate::spelling::Spelling;
-use byte_ledger::ledgers::{Blanks, Ledgers};
 use call_types::act::ScriptAct;
 use call_types::limits::Limits;
 use logged_streams::reader::LoggedReader;
 use logged_streams::reading::{ReadEnd, Takes, read_all};
 use logged_streams::stream_log::INTERRUPTIONS_MAX;
 use logged_streams::writer::LoggedWriter;
-use record_book::book::Book;
-use record_book::run::ScriptAnswer;
-use record_book::seats::Seats;
+use script_run::run::ScriptRun;
 use script_text::fault::{Expected, ScriptFault};
 use script_text::lines::write_totals;
 use script_text::round_trip::{read_scripts_are_spelled, spelled_scripts_are_read};
 use script_text::script::{SCRIPT_MAX, Script};
 use std::alloc::{AllocError, Global};
 use std::io::{Read, Write};
-use std::marker::Brand;
 use std::mem::forget;
 use text_forms::scripts::{Lines, plain_script, source_column, write_strung};
 
@@ -110,39 +106,31 @@ pub(crate) fn read_text<R: Read>(
     }
 }
 
-/// Runs the next act, and gathers the lines of what is told of it. A recorded act is leaked, and so is its receipt: a long name or
-/// long data are shared with its record in the book. Any other act is dropped.
-fn run_next<L: Ledgers>(
+/// Runs the next act, and gathers the lines of what is told of it.
+fn run_next(
     alloc: Global,
-    book: &mut Book<L>,
-    seats: &mut Seats<L>,
+    run: &mut ScriptRun,
     act: ScriptAct,
     lines: &mut Vec<u8>,
 ) -> Result<(), AllocError>
-    ensures { OnOk result (RunsNext book.old book.new seats.old.0 seats.new.0 act lines.old.items lines.new.items) }
+    ensures { OnOk result (RunsNext run.old run.new act lines.old.items lines.new.items) }
 {
-    let told = book.run_act(alloc, seats, &act);
-    put_line(lines, &told)?;
-    if let ScriptAnswer::Recorded(_) = told {
-        forget(told);
-        forget(act);
-    }
-    Ok(())
+    let told = run.run_act(alloc, act);
+    put_line(lines, &told)
 }
 
 /// Runs the acts that are left of a script, one after another as they are read, and gathers the lines of what is told of each.
-fn run_all<L: Ledgers>(
+fn run_all(
     alloc: Global,
     script: &mut Script<'_>,
-    book: &mut Book<L>,
-    seats: &mut Seats<L>,
+    run: &mut ScriptRun,
     lines: &mut Vec<u8>,
 ) -> Result<(), ScriptFault>
-    ensures ok { OnOk result (RunsOn script.old.read (Ok []) book.old book.new seats.old.0 seats.new.0 lines.old.items lines.new.items) }
+    ensures ok { OnOk result (RunsOn script.old.read (Ok []) run.old run.new lines.old.items lines.new.items) }
     ensures fault { IfErr result (λ fault. ScriptFails fault script.old.read) }
 {
     while let Some(act) = script.next_act(alloc)? {
-        match run_next(alloc, book, seats, act, lines) {
+        match run_next(alloc, run, act, lines) {
             Ok(()) => {}
             Err(_) => return Err(ScriptFault::NoMemory),
         }
@@ -151,27 +139,25 @@ fn run_all<L: Ledgers>(
 }
 
 /// Runs the acts that are left of a script, and gathers their lines and the line of totals. `room` is the room for
-/// lines at the start, in bytes. If it succeeds, the seats are leaked and not dropped receipt by receipt.
-fn gather_lines<L: Ledgers>(
+/// lines at the start, in bytes.
+fn gather_lines(
     alloc: Global,
     script: &mut Script<'_>,
-    book: &mut Book<L>,
+    run: &mut ScriptRun,
     room: usize,
 ) -> Result<Vec<u8>, JobEnd>
-    ensures lines { IfOk result (λ lines. Gathers script.old.read book.old book.new lines.items) }
+    ensures lines { IfOk result (λ lines. Gathers script.old.read run.old lines.items) }
     ensures fault { IfErr result (λ ended. FailsReading script.old.read ended) }
 {
-    let mut seats = Seats::new(alloc);
     let mut lines = Vec::with_capacity(alloc, room)?;
-    run_all(alloc, script, book, &mut seats, &mut lines)?;
-    let counts = book.counts();
+    run_all(alloc, script, run, &mut lines)?;
+    let counts = run.counts();
     write_totals(
         &mut lines,
         counts.records,
         counts.bytes_in,
         counts.bytes_out,
     )?;
-    forget(seats);
     Ok(lines)
 }
 
@@ -185,21 +171,16 @@ fn leaked_if_ok<T: Drop, U, E>(value: T, outcome: Result<U, E>) -> Result<U, E>
     outcome
 }
 
-/// Runs the acts of a script in a new book as they are read, and gathers its output. Where it succeeds, the book is leaked, and not dropped one record after another.
-fn run_script<L: Ledgers>(
-    alloc: Global,
-    limits: Limits,
-    blanks: Blanks,
-    text: &[u8],
-) -> Result<Vec<u8>, JobEnd>
-    requires { blanks ≡ L.names }
+/// Runs the acts of a script in a new run as they are read, and gathers its output. Where it succeeds, the run is leaked, and not
+/// dropped one file after another.
+fn run_script(alloc: Global, limits: Limits, text: &[u8]) -> Result<Vec<u8>, JobEnd>
     ensures lines { IfOk result (λ lines. RunsScript limits text.now lines.items) }
     ensures fault { IfErr result (λ ended. FailsAs text.now ended) }
 {
     let mut script = Script::new(text)?;
-    let mut book = Book::<L>::new(alloc, limits, blanks)?;
-    let gathered = gather_lines(alloc, &mut script, &mut book, 2 * text.len());
-    leaked_if_ok(book, gathered)
+    let mut run = ScriptRun::new(alloc, limits)?;
+    let gathered = gather_lines(alloc, &mut script, &mut run, 2 * text.len());
+    leaked_if_ok(run, gathered)
 }
 
 /// Runs the script for which a text with comments and strings stands, and gathers its output, with strings too.
@@ -211,7 +192,7 @@ fn run_text(alloc: Global, limits: Limits, text: &[u8]) -> Result<Vec<u8>, JobEn
         return Err(JobEnd::TooLong);
     }
     let plain = plain_script(alloc, text)?;
-    let lines = run_script::<Brand>(alloc, limits, Blanks::new(), plain.as_slice())?;
+    let lines = run_script(alloc, limits, plain.as_slice())?;
     let mut strung = Vec::with_capacity(alloc, lines.len())?;
     write_strung(&mut strung, Lines::Records, lines.as_slice())?;
     Ok(strung)
@@ -341,18 +322,18 @@ fn end_in(how: Spelling, text: &[u8], found: JobEnd) -> JobEnd
     end_at(how, byte_at(text, line, column), line, column, expected)
 }
 
-/// Runs the acts of a script that is spelled so in a new book, and gathers its output in the same spelling.
+/// Runs the acts of a script that is spelled so in a new run, and gathers its output in the same spelling.
 fn run_spelled(alloc: Global, limits: Limits, how: Spelling, text: &[u8]) -> Result<Vec<u8>, JobEnd>
     ensures lines { IfOk result (λ lines. RunsText limits how text.now lines.items) }
     ensures fault { IfErr result (λ ended. FailsReading (read_in how text.now) ended) }
 {
     match how {
-        Spelling::Plain => run_script::<Brand>(alloc, limits, Blanks::new(), text),
+        Spelling::Plain => run_script(alloc, limits, text),
         Spelling::Text => run_text(alloc, limits, text),
     }
 }
 
-/// Runs the acts of a script that is spelled so in a new book, and gathers its output in the same spelling. A fault is told of the text.
+/// Runs the acts of a script that is spelled so in a new run, and gathers its output in the same spelling. A fault is told of the text.
 fn run_in(alloc: Global, limits: Limits, how: Spelling, text: &[u8]) -> Result<Vec<u8>, JobEnd>
     ensures lines { IfOk result (λ lines. RunsText limits how text.now lines.items) }
     ensures fault { IfErr result (λ ended. FailsTold how text.now ended) }
@@ -363,9 +344,9 @@ fn run_in(alloc: Global, limits: Limits, how: Spelling, text: &[u8]) -> Result<V
     }
 }
 
-/// Reads a script that is spelled so, runs its acts in their order in a new book, and writes a line for each record and each act that is
-/// not recorded, and a line of totals, in the same spelling. Nothing is written before the whole script is read and run. The book and the seats of
-/// the run are leaked: it is meant for a program that ends then, and is to be called once in a process.
+/// Reads a script that is spelled so, runs its acts in their order in a new run, and writes a line for each record and each act that is
+/// not recorded, and a line of totals, in the same spelling. Nothing is written before the whole script is read and run. The state of
+/// the run is leaked: it is meant for a program that ends then, and is to be called once in a process.
 pub fn replay<R: Read, W: Write>(
     alloc: Global,
     reader: &mut LoggedReader<R>,
