@@ -28,17 +28,18 @@ allocation was refused, and else for one act of each run, which is another one f
 
 The trial is crates/memory_trial/out/memory_trial where no PATH is given. It runs a script as the
 program does, but gives an act again that is refused for want of memory, once it has looked that the
-refusal changed nothing. It does so in two ways: as `script`, where the book runs each act as one of a
-script, and as `calls`, where each act is given by the call of the book for its kind, as a session gives
-it. Both are run on the same scripts, where the program ends with status 0, with each allocation refused
-alone, and may end in two ways, and in no other:
+refusal changed nothing. It does so in two ways: as `script`, where each act is run as the program runs
+it, without a book, and as `calls`, where each act is given by the call of a book for its kind, as a
+session gives it. Both are run on the same scripts, where the program ends with status 0, with each
+allocation refused alone, and may end in two ways, and in no other:
 
   - with status 0 and the lines that the program prints when nothing is refused, byte for byte; where
     an act was given again, standard error says `given again: 1`,
   - with status 5, `no memory`, and nothing on standard output, where the trial wants memory of its own:
-    to read the script, to make the book, to keep a line or a seat.
+    to read the script, to make the run or the book, to keep a line or a seat.
 
-Where an act of the script is recorded that is no exit or closing, some run must have given an act again.
+Where an act of the script is recorded that may want memory, some run must have given an act again. No exit
+or closing does and, without a book, no attach.
 An exit or a closing that is refused for want of memory is a fault of the trial.
 
 What is not built is skipped, which is told; a PATH that is given and not there is a failure, and so
@@ -75,7 +76,8 @@ LONG = 1_000
 STRIDE = 41
 
 # How the trial gives its acts.
-WAYS = ["script", "calls"]
+SCRIPT = "script"
+WAYS = [SCRIPT, "calls"]
 
 AS_WANTED = "as with nothing refused"
 REFUSED = b" = refused NoMemory\n"
@@ -292,11 +294,16 @@ class TrialRow(Row):
             return End("no memory", 0, 0)
         raise Failure(self.first_difference(ran))
 
+    def may_want_memory(self, act: bytes) -> bool:
+        """Whether an act may want memory; an attach wants it for its receipts alone."""
+        return not is_end(act) and not (self.words[1] == SCRIPT and act.split(b" ")[1:] == [b"attach"])
+
     def check_ways(self, ways: collections.Counter[str]) -> None:
         """Looks whether some run of a row, in which an act that may want memory is recorded, gave an act again."""
         acts = [line for line in self.script.split(b"\n") if line]
         told = zip(acts, lines_by_act(acts, self.lines)[0], strict=True)
-        if any(is_recorded(lines) and not is_end(act) for act, lines in told) and not ways["an act given again"]:
+        recorded = any(is_recorded(lines) and self.may_want_memory(act) for act, lines in told)
+        if recorded and not ways["an act given again"]:
             raise Failure("no run gave an act again")
 
 

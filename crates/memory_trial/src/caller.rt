@@ -1,18 +1,20 @@
-//! Acts given by the public calls of a book, one for each kind of act, with seats that are kept here.
+//! A book, to which acts are given by its public calls, one for each kind of act, and the seats of their processes.
 
-ghost use Rattle.std.specs.Prelude.{◌<◌, vec_len, IfSome};
+ghost use Rattle.std.specs.Prelude.{◌≡◌, ◌<◌, vec_len, IfSome};
 
+use crate::answer::Answer;
+use crate::stand::{BookStand, Held};
 use crate::trial_fault::TrialFault;
-use byte_ledger::ledgers::Ledgers;
+use byte_ledger::ledgers::{Blanks, Ledgers};
+use byte_ledger::tallies::Sums;
 use call_types::act::{HOUSE, ScriptAct};
 use call_types::call::Call;
-use call_types::limits::PROCESSES_MAX;
+use call_types::limits::{Limits, PROCESSES_MAX};
 use call_types::refusal::Refusal;
 use record_book::book::Book;
 use record_book::calling::Resumed;
 use record_book::exits::Unspent;
 use record_book::opening::{Opened, OpenedIn};
-use record_book::run::ScriptAnswer;
 use record_book::seat::{Receipt, Seat, SpentSeat};
 use std::alloc::{AllocError, Global};
 
@@ -54,14 +56,14 @@ fn last_of<L: Ledgers>(seat: SpentSeat<L>) -> Result<Receipt, Unrecorded> {
 }
 
 /// What is told of an act that is recorded or refused.
-fn told<'a>(
+fn told(
     actor: u32,
-    act: &'a ScriptAct,
+    act: ScriptAct,
     recorded: Result<Receipt, Unrecorded>,
-) -> Result<ScriptAnswer<'a>, TrialFault> {
+) -> Result<Answer, TrialFault> {
     match recorded {
-        Ok(receipt) => Ok(ScriptAnswer::Recorded(receipt)),
-        Err(Unrecorded::Refused(refusal)) => Ok(ScriptAnswer::Refused {
+        Ok(receipt) => Ok(Answer::Recorded(receipt)),
+        Err(Unrecorded::Refused(refusal)) => Ok(Answer::Refused {
             actor,
             act,
             refusal,
@@ -71,45 +73,41 @@ fn told<'a>(
 }
 
 /// What is told of a resume.
-fn resumed<'a>(
-    actor: u32,
-    act: &'a ScriptAct,
-    resumed: Result<Resumed, Refusal>,
-) -> ScriptAnswer<'a> {
+fn resumed(process: u32, resumed: Result<Resumed, Refusal>) -> Answer {
     match resumed {
-        Ok(Resumed::Recorded(receipt)) => ScriptAnswer::Recorded(receipt),
-        Ok(Resumed::Still) => ScriptAnswer::Still { actor, act },
-        Err(refusal) => ScriptAnswer::Refused {
-            actor,
-            act,
+        Ok(Resumed::Recorded(receipt)) => Answer::Recorded(receipt),
+        Ok(Resumed::Still) => Answer::Still {
+            actor: process,
+            act: ScriptAct::Resume { process },
+        },
+        Err(refusal) => Answer::Refused {
+            actor: process,
+            act: ScriptAct::Resume { process },
             refusal,
         },
     }
 }
 
-/// What is told of a closing.
-fn close<'a, L: Ledgers>(book: &mut Book<L>, act: &'a ScriptAct) -> ScriptAnswer<'a> {
-    match book.close_run() {
-        Some(house) => {
-            let (receipts, _shares) = house.into_parts();
-            ScriptAnswer::Closed(receipts)
-        }
-        None => ScriptAnswer::Still { actor: HOUSE, act },
-    }
-}
-
-/// The seats of the processes that are live and attached.
+/// A book, and the seats of the processes that are live and attached.
 #[derive(Drop)]
 pub(crate) struct Caller<L: Ledgers> {
     seats: Vec<Seat<L>>,
+    book: Book<L>,
 }
 
 impl<L: Ledgers> Caller<L> {
-    /// No seat, and room for those of as many processes as live at one time.
-    pub(crate) fn new(alloc: Global) -> Result<Self, AllocError> {
-        Ok(Caller {
-            seats: Vec::with_capacity(alloc, PROCESSES_MAX)?,
-        })
+    /// A book without records that counts by these ledgers, and room for the seats of as many processes as live at one time.
+    pub(crate) fn new(alloc: Global, limits: Limits, blanks: Blanks) -> Result<Self, AllocError>
+        requires { blanks ≡ L.names }
+    {
+        let seats = Vec::with_capacity(alloc, PROCESSES_MAX)?;
+        let book = Book::new(alloc, limits, blanks)?;
+        Ok(Caller { seats, book })
+    }
+
+    /// How many records the book holds, and how many bytes they took and gave.
+    pub(crate) fn counts(&self) -> Sums {
+        self.book.counts()
     }
 
     /// Where the seat of a process is.
@@ -124,10 +122,23 @@ impl<L: Ledgers> Caller<L> {
         None
     }
 
-    /// The seat of a process.
-    pub(crate) fn seat(&self, process: u32) -> Option<&Seat<L>> {
+    /// What the seat of a process holds.
+    fn held(&self, process: u32) -> Option<Held> {
         let index = self.index_of(process)?;
-        Some(&self.seats[index])
+        Some(Held::of(&self.book, &self.seats[index]))
+    }
+
+    /// How the book and the seats stand.
+    pub(crate) fn stand(&self) -> BookStand {
+        let mut seats = [None; PROCESSES_MAX];
+        for (number, slot) in seats.iter_mut().enumerate() {
+            *slot = self.held(number as u32);
+        }
+        BookStand {
+            counts: self.book.counts(),
+            next_pid: self.book.next_pid(),
+            seats,
+        }
     }
 
     /// Keeps a seat.
@@ -151,56 +162,40 @@ impl<L: Ledgers> Caller<L> {
     }
 
     /// Gives a join to the book.
-    fn join(&mut self, alloc: Global, book: &mut Book<L>) -> Result<Receipt, Unrecorded> {
-        let opened = book.join(alloc)?;
+    fn join(&mut self, alloc: Global) -> Result<Receipt, Unrecorded> {
+        let opened = self.book.join(alloc)?;
         self.opened(opened)
     }
 
     /// Gives an attach to the book.
-    fn attach(
-        &mut self,
-        alloc: Global,
-        book: &mut Book<L>,
-        process: u32,
-    ) -> Result<Receipt, Unrecorded> {
-        let opened = book.attach(alloc, process)?;
+    fn attach(&mut self, alloc: Global, process: u32) -> Result<Receipt, Unrecorded> {
+        let opened = self.book.attach(alloc, process)?;
         self.opened(opened)
     }
 
     /// Gives a call to the book.
-    fn call(
-        &mut self,
-        alloc: Global,
-        book: &mut Book<L>,
-        process: u32,
-        call: &Call,
-    ) -> Result<Receipt, Unrecorded> {
+    fn call(&mut self, alloc: Global, process: u32, call: &Call) -> Result<Receipt, Unrecorded> {
         let Some(index) = self.index_of(process) else {
             return Err(Unrecorded::Refused(Refusal::NotHere));
         };
         let call = copy_of(call)?;
-        Ok(book.start(alloc, &mut self.seats[index], call)?)
+        Ok(self.book.start(alloc, &mut self.seats[index], call)?)
     }
 
     /// Gives a resume to the book.
-    fn resume(
-        &mut self,
-        alloc: Global,
-        book: &mut Book<L>,
-        process: u32,
-    ) -> Result<Resumed, Refusal> {
+    fn resume(&mut self, alloc: Global, process: u32) -> Result<Resumed, Refusal> {
         match self.index_of(process) {
-            Some(index) => book.resume(alloc, &mut self.seats[index]),
+            Some(index) => self.book.resume(alloc, &mut self.seats[index]),
             None => Err(Refusal::NotHere),
         }
     }
 
     /// Gives an exit to the book. A seat that the book gives back is kept.
-    fn exit(&mut self, book: &mut Book<L>, process: u32) -> Result<Receipt, Unrecorded> {
+    fn exit(&mut self, process: u32) -> Result<Receipt, Unrecorded> {
         let Some(index) = self.index_of(process) else {
             return Err(Unrecorded::Refused(Refusal::NotHere));
         };
-        match book.exit(self.seats.swap_remove(index)) {
+        match self.book.exit(self.seats.swap_remove(index)) {
             Ok(seat) => last_of(seat),
             Err(Unspent { seat, refusal }) => {
                 self.keep(seat)?;
@@ -209,28 +204,41 @@ impl<L: Ledgers> Caller<L> {
         }
     }
 
+    /// Closes the book.
+    fn close(&mut self) -> Answer {
+        match self.book.close_run() {
+            Some(house) => {
+                let (receipts, _shares) = house.into_parts();
+                Answer::Closed(receipts)
+            }
+            None => Answer::Still {
+                actor: HOUSE,
+                act: ScriptAct::CloseRun,
+            },
+        }
+    }
+
     /// Gives an act to the book.
-    pub(crate) fn give<'a>(
-        &mut self,
-        alloc: Global,
-        book: &mut Book<L>,
-        act: &'a ScriptAct,
-    ) -> Result<ScriptAnswer<'a>, TrialFault> {
+    pub(crate) fn give(&mut self, alloc: Global, act: ScriptAct) -> Result<Answer, TrialFault> {
         match act {
-            ScriptAct::Join => told(book.next_pid(), act, self.join(alloc, book)),
+            ScriptAct::Join => {
+                let actor = self.book.next_pid();
+                told(actor, ScriptAct::Join, self.join(alloc))
+            }
             ScriptAct::Attach { process } => {
-                told(*process, act, self.attach(alloc, book, *process))
+                let recorded = self.attach(alloc, process);
+                told(process, ScriptAct::Attach { process }, recorded)
             }
             ScriptAct::Call { process, call } => {
-                told(*process, act, self.call(alloc, book, *process, call))
+                let recorded = self.call(alloc, process, &call);
+                told(process, ScriptAct::Call { process, call }, recorded)
             }
-            ScriptAct::Resume { process } => Ok(resumed(
-                *process,
-                act,
-                self.resume(alloc, book, *process),
-            )),
-            ScriptAct::Exit { process } => told(*process, act, self.exit(book, *process)),
-            ScriptAct::CloseRun => Ok(close(book, act)),
+            ScriptAct::Resume { process } => Ok(resumed(process, self.resume(alloc, process))),
+            ScriptAct::Exit { process } => {
+                let recorded = self.exit(process);
+                told(process, ScriptAct::Exit { process }, recorded)
+            }
+            ScriptAct::CloseRun => Ok(self.close()),
         }
     }
 }

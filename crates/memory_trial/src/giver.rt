@@ -1,57 +1,71 @@
-//! The two ways in which acts are given to a book.
+//! The two ways in which acts are given.
+
+ghost use Rattle.std.specs.Prelude.{◌≡◌};
+
+use crate::answer::Answer;
 use crate::caller::Caller;
+use crate::stand::Stand;
 use crate::trial_fault::TrialFault;
-use byte_ledger::ledgers::Ledgers;
+use byte_ledger::ledgers::{Blanks, Ledgers};
+use byte_ledger::tallies::Sums;
 use call_types::act::ScriptAct;
-use record_book::book::Book;
-use record_book::run::ScriptAnswer;
-use record_book::seat::Seat;
-use record_book::seats::Seats;
+use call_types::limits::Limits;
+use script_run::run::ScriptRun;
 use std::alloc::{AllocError, Global};
 
-/// How acts are given to a book.
+/// How acts are given.
 #[derive(Clone, Copy, Debug, PartialEq, Eq)]
 pub(crate) enum Way {
-    /// By `Book::run_act`, as a script is run.
+    /// To `ScriptRun::run_act`, as a script is run.
     Script,
-    /// By the call of `Book` for each kind of act, as a session gives them.
+    /// To the call of `Book` for each kind of act, as a session gives them.
     Calls,
 }
 
-/// What gives acts to a book, and keeps the seats of their processes.
+/// What acts are given to.
 #[derive(Drop)]
 pub(crate) enum Giver<L: Ledgers> {
-    Script(Seats<L>),
+    Script(ScriptRun),
     Calls(Caller<L>),
 }
 
 impl<L: Ledgers> Giver<L> {
-    /// One without seats.
-    pub(crate) fn new(alloc: Global, way: Way) -> Result<Self, AllocError> {
-        match way {
-            Way::Script => Ok(Giver::Script(Seats::new(alloc))),
-            Way::Calls => Ok(Giver::Calls(Caller::new(alloc)?)),
-        }
-    }
-
-    /// The seat of a process.
-    pub(crate) fn seat(&self, process: u32) -> Option<&Seat<L>> {
-        match self {
-            Giver::Script(seats) => seats.seat(process),
-            Giver::Calls(caller) => caller.seat(process),
-        }
-    }
-
-    /// Gives an act to the book.
-    pub(crate) fn give<'a>(
-        &mut self,
+    /// One without records. A book counts by these ledgers.
+    pub(crate) fn new(
         alloc: Global,
-        book: &mut Book<L>,
-        act: &'a ScriptAct,
-    ) -> Result<ScriptAnswer<'a>, TrialFault> {
+        way: Way,
+        limits: Limits,
+        blanks: Blanks,
+    ) -> Result<Self, AllocError>
+        requires { blanks ≡ L.names }
+    {
+        match way {
+            Way::Script => Ok(Giver::Script(ScriptRun::new(alloc, limits)?)),
+            Way::Calls => Ok(Giver::Calls(Caller::new(alloc, limits, blanks)?)),
+        }
+    }
+
+    /// How many records there are, and how many bytes they took and gave.
+    pub(crate) fn counts(&self) -> Sums {
         match self {
-            Giver::Script(seats) => Ok(book.run_act(alloc, seats, act)),
-            Giver::Calls(caller) => caller.give(alloc, book, act),
+            Giver::Script(run) => run.counts(),
+            Giver::Calls(caller) => caller.counts(),
+        }
+    }
+
+    /// How it stands.
+    pub(crate) fn stand(&self) -> Stand {
+        match self {
+            Giver::Script(run) => Stand::Run(run.counts()),
+            Giver::Calls(caller) => Stand::Book(caller.stand()),
+        }
+    }
+
+    /// Gives an act.
+    pub(crate) fn give(&mut self, alloc: Global, act: ScriptAct) -> Result<Answer, TrialFault> {
+        match self {
+            Giver::Script(run) => Ok(Answer::from(run.run_act(alloc, act))),
+            Giver::Calls(caller) => caller.give(alloc, act),
         }
     }
 }

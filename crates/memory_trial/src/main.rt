@@ -1,10 +1,12 @@
 //! The program `memory_trial WAY N C`: runs the script on standard input in a run of at most N records (10,000 where there is no
-//! number) whose pipes hold C bytes (1,024 where there is none), and prints the lines that `fdref replay` prints. WAY is `script`, where `Book::run_act` runs each act and keeps the seats; or
-//! `calls`, where each act is given by the call of `Book` for its kind (`join`, `attach`, `start`, `resume`, `exit`, `close_run`), as a
-//! session gives it, and the seats are kept here. An act for which memory is wanting must have left all as it was, and is given again; an
-//! exit or a closing must never be one. `tests/allocations.py`, at the top of the repository, refuses it each of its allocations in turn.
+//! number) whose pipes hold C bytes (1,024 where there is none), and prints the lines that `fdref replay` prints. WAY is `script`, where
+//! `ScriptRun::run_act` runs each act, as `fdref replay` has it run; or `calls`, where each act is given by the call of `Book` for its
+//! kind (`join`, `attach`, `start`, `resume`, `exit`, `close_run`), as a session gives it, and the seats are kept here. An act for which
+//! memory is wanting must have left all as it was, and is given again; an exit or a closing must never be one. `tests/allocations.py`, at
+//! the top of the repository, refuses it each of its allocations in turn.
 #![tactic(auto)]
 
+mod answer;
 mod caller;
 mod giver;
 mod lines;

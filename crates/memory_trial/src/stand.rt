@@ -1,5 +1,4 @@
 //! What an act that is refused must leave as it was.
-use crate::giver::Giver;
 use byte_ledger::ledgers::Ledgers;
 use byte_ledger::tallies::Sums;
 use call_types::limits::PROCESSES_MAX;
@@ -8,7 +7,7 @@ use record_book::seat::Seat;
 
 /// What a seat holds, and how its process stands.
 #[derive(Clone, Copy, Debug, PartialEq, Eq)]
-struct Held {
+pub(crate) struct Held {
     pid: u32,
     seen: u64,
     receipts: usize,
@@ -18,7 +17,7 @@ struct Held {
 
 impl Held {
     /// What this seat of a book holds.
-    fn of<L: Ledgers>(book: &Book<L>, seat: &Seat<L>) -> Self {
+    pub(crate) fn of<L: Ledgers>(book: &Book<L>, seat: &Seat<L>) -> Self {
         Held {
             pid: seat.pid(),
             seen: seat.seen(),
@@ -30,26 +29,15 @@ impl Held {
 
 /// The counts of a book, the number of its next process, and what each seat of the first processes holds.
 #[derive(Clone, Copy, Debug, PartialEq, Eq)]
-pub(crate) struct Stand {
-    counts: Sums,
-    next_pid: u32,
-    seats: [Option<Held>; PROCESSES_MAX],
+pub(crate) struct BookStand {
+    pub(crate) counts: Sums,
+    pub(crate) next_pid: u32,
+    pub(crate) seats: [Option<Held>; PROCESSES_MAX],
 }
 
-impl Stand {
-    /// How a book and the seats of whoever gives it acts stand.
-    pub(crate) fn of<L: Ledgers>(book: &Book<L>, giver: &Giver<L>) -> Self {
-        let mut seats = [None; PROCESSES_MAX];
-        for (number, slot) in seats.iter_mut().enumerate() {
-            *slot = match giver.seat(number as u32) {
-                Some(seat) => Some(Held::of(book, seat)),
-                None => None,
-            };
-        }
-        Stand {
-            counts: book.counts(),
-            next_pid: book.next_pid(),
-            seats,
-        }
-    }
+/// How stands what acts are given to: the counts of the run of a script, or a book and its seats.
+#[derive(Clone, Copy, Debug, PartialEq, Eq)]
+pub(crate) enum Stand {
+    Run(Sums),
+    Book(BookStand),
 }

@@ -2,6 +2,7 @@
 
 ghost use Rattle.std.specs.Prelude.{◌≡◌};
 
+use crate::answer::Answer;
 use crate::giver::{Giver, Way};
 use crate::lines::gather;
 use crate::stand::Stand;
@@ -10,23 +11,10 @@ use byte_ledger::ledgers::{Blanks, Ledgers};
 use call_types::act::ScriptAct;
 use call_types::limits::Limits;
 use call_types::refusal::Refusal;
-use record_book::book::Book;
-use record_book::run::ScriptAnswer;
 use script_text::lines::write_totals;
 use script_text::script::{SCRIPT_MAX, Script};
 use std::alloc::{AllocError, Global};
 use std::io::{ErrorKind, Read};
-
-/// Whether an act was refused for want of memory.
-fn is_wanting(told: &ScriptAnswer<'_>) -> bool {
-    matches!(
-        told,
-        ScriptAnswer::Refused {
-            refusal: Refusal::NoMemory,
-            ..
-        }
-    )
-}
 
 /// Whether an act takes no memory.
 fn is_end(act: &ScriptAct) -> bool {
@@ -45,22 +33,18 @@ pub(crate) struct Ran {
 /// A run so far.
 #[derive(Drop)]
 struct Run<L: Ledgers> {
-    book: Book<L>,
     giver: Giver<L>,
     /// How many acts were given.
     acts: u64,
 }
 
 impl<L: Ledgers> Run<L> {
-    /// A run without records, counted by these ledgers, to which acts are given in this way.
+    /// A run without records to which acts are given in this way. A book counts them by these ledgers.
     fn new(alloc: Global, way: Way, limits: Limits, blanks: Blanks) -> Result<Self, AllocError>
         requires { blanks ≡ L.names }
     {
-        let giver = Giver::new(alloc, way)?;
-        let book = Book::new(alloc, limits, blanks)?;
         Ok(Run {
-            book,
-            giver,
+            giver: Giver::new(alloc, way, limits, blanks)?,
             acts: 0,
         })
     }
@@ -70,45 +54,51 @@ impl<L: Ledgers> Run<L> {
         if is_end(act) {
             return Err(TrialFault::EndRefused { act: self.acts });
         }
-        if Stand::of(&self.book, &self.giver) != *before {
+        if self.giver.stand() != *before {
             return Err(TrialFault::Changed { act: self.acts });
         }
         Ok(())
     }
 
-    /// Gives an act to the book once more.
-    fn give_again<'a>(
+    /// Gives an act once more.
+    fn give_again(
         &mut self,
         alloc: Global,
-        act: &'a ScriptAct,
+        act: ScriptAct,
         again: &mut u64,
-    ) -> Result<ScriptAnswer<'a>, TrialFault> {
+    ) -> Result<Answer, TrialFault> {
         *again = again.saturating_add(1);
-        let told = self.giver.give(alloc, &mut self.book, act)?;
-        if is_wanting(&told) {
-            return Err(TrialFault::RefusedTwice { act: self.acts });
+        match self.giver.give(alloc, act)? {
+            Answer::Refused {
+                refusal: Refusal::NoMemory,
+                ..
+            } => Err(TrialFault::RefusedTwice { act: self.acts }),
+            told => Ok(told),
         }
-        Ok(told)
     }
 
-    /// Gives an act to the book; where memory is wanting, it must have left all as it was, and is given again.
-    fn give<'a>(
+    /// Gives an act; where memory is wanting, it must have left all as it was, and is given again.
+    fn give(
         &mut self,
         alloc: Global,
-        act: &'a ScriptAct,
+        act: ScriptAct,
         again: &mut u64,
-    ) -> Result<ScriptAnswer<'a>, TrialFault> {
-        let before = Stand::of(&self.book, &self.giver);
-        let told = self.giver.give(alloc, &mut self.book, act)?;
-        if !is_wanting(&told) {
-            return Ok(told);
+    ) -> Result<Answer, TrialFault> {
+        let before = self.giver.stand();
+        match self.giver.give(alloc, act)? {
+            Answer::Refused {
+                act,
+                refusal: Refusal::NoMemory,
+                ..
+            } => {
+                self.may_be_given_again(&act, &before)?;
+                self.give_again(alloc, act, again)
+            }
+            told => Ok(told),
         }
-        drop(told);
-        self.may_be_given_again(act, &before)?;
-        self.give_again(alloc, act, again)
     }
 
-    /// Gives the next act to the book, and gathers its lines.
+    /// Gives the next act, and gathers its lines.
     fn give_next(
         &mut self,
         alloc: Global,
@@ -116,7 +106,7 @@ impl<L: Ledgers> Run<L> {
         ran: &mut Ran,
     ) -> Result<(), TrialFault> {
         self.acts = self.acts.saturating_add(1);
-        let told = self.give(alloc, &act, &mut ran.again)?;
+        let told = self.give(alloc, act, &mut ran.again)?;
         gather(&mut ran.lines, &told)?;
         Ok(())
     }
@@ -133,7 +123,7 @@ fn read_text<R: Read + Drop>(alloc: Global, reader: R) -> Result<Vec<u8>, TrialF
     }
 }
 
-/// Gives the acts that are left of a script to the book, one after another.
+/// Gives the acts that are left of a script to a run, one after another.
 fn give_all<L: Ledgers>(
     alloc: Global,
     script: &mut Script<'_>,
@@ -146,7 +136,7 @@ fn give_all<L: Ledgers>(
     Ok(())
 }
 
-/// Gives the acts of a script to the book of a run, and gathers its lines and the line of totals.
+/// Gives the acts of a script to a run, and gathers its lines and the line of totals.
 fn run_script<L: Ledgers>(
     alloc: Global,
     text: &[u8],
@@ -155,7 +145,7 @@ fn run_script<L: Ledgers>(
 ) -> Result<(), TrialFault> {
     let mut script = Script::new(text)?;
     give_all(alloc, &mut script, run, ran)?;
-    let counts = run.book.counts();
+    let counts = run.giver.counts();
     write_totals(
         &mut ran.lines,
         counts.records,

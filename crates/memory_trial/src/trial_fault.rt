@@ -22,12 +22,12 @@ pub enum TrialFault {
     CannotRead,
     /// The output failed.
     CannotWrite,
-    /// Memory was wanting to read the script, to make the book or to gather the lines.
+    /// Memory was wanting to read the script, to make the run or the book, or to gather the lines.
     NoMemory,
 }
 
 impl TrialFault {
-    /// The exit status of the program; 1 says that the book is at fault.
+    /// The exit status of the program; 1 says that the run or the book is at fault.
     pub fn status(self) -> u8 {
         match self {
             TrialFault::Changed { .. }
