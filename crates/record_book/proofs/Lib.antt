@@ -4,4 +4,3 @@ pub mod GrowLemmas
 pub mod CountLemmas
 pub mod OwnLemmas
 pub mod PlanLemmas
-pub mod RunLemmas

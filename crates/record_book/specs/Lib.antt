@@ -5,7 +5,6 @@ pub mod Counting
 pub mod Refusals
 pub mod Openings
 pub mod Ends
-pub mod Runs
 pub mod Resumes
 pub mod HouseReceipts
 pub mod JournalSeen

@@ -8,4 +8,3 @@ pub mod Inside
 pub mod Counted
 pub mod Leaving
 pub mod Prepared
-pub mod Running

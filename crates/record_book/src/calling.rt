@@ -27,9 +27,7 @@ pub enum Resumed {
 
 impl<L: Ledgers> Book<L> {
     /// Records a call that is not refused. On an error nothing changes.
-    // Not inlined, so that it stands once in a program, for scripts and for sessions, and so does `decide_call`, which is inlined.
-    #[inline(never)]
-    pub(crate) fn record_call(
+    fn record_call(
         &mut self,
         alloc: Global,
         seat: &mut Seat<L>,

@@ -253,7 +253,7 @@ pub struct Unspent<L: Ledgers> {
 
 impl<L: Ledgers> Book<L> {
     /// Records the exit of a process, which is live, counts it by the shares of its seat, and returns the receipt.
-    pub(crate) fn record_exit(&mut self, process: u32, shares: &mut Shares<L>) -> Receipt
+    fn record_exit(&mut self, process: u32, shares: &mut Shares<L>) -> Receipt
         requires { is_some (slot (world_now self.old).processes process) ≡ true }
         ensures appends { Appends self.old self.new process Act.Exit result }
         ensures record_is { result.record_is ≡ exit_record process }

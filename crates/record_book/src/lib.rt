@@ -17,6 +17,4 @@ pub mod moved;
 pub mod opening;
 mod recording;
 mod refusals;
-pub mod run;
 pub mod seat;
-pub mod seats;

@@ -33,10 +33,7 @@ impl<L: Ledgers> Book<L> {
     }
 
     /// Records a join that is not refused. Returns the seat and, beside it, its receipt. On an error nothing changes.
-    pub(crate) fn record_join(
-        &mut self,
-        alloc: Global,
-    ) -> Result<(OpenedIn<L>, Receipt), AllocError>
+    fn record_join(&mut self, alloc: Global) -> Result<(OpenedIn<L>, Receipt), AllocError>
         requires free { join_refusal self.old ≡ None }
         ensures recorded { IfOk result (λ joined. JoinsBy self.old self.new joined.0 joined.1) }
         ensures unchanged { OnErr result (self.new ≡ self.old) }
@@ -53,7 +50,7 @@ impl<L: Ledgers> Book<L> {
     }
 
     /// Records an attach that is not refused. Returns its receipt once more beside the seat. On an error nothing changes.
-    pub(crate) fn record_attach(
+    fn record_attach(
         &mut self,
         alloc: Global,
         process: u32,
