@@ -1,30 +1,35 @@
 -- A run of a script as it is read: what was read so far was run, and its lines are gathered.
 use Rattle.std.proofs.Common.{◌≡◌, ◌≤◌, ℕ, Bool, true, false, List, [], ◌∷◌, ◌++◌, Option, None, Some, Result, Ok, Err, length, inl, inr, refl, ◌∙◌, ap, sym, subst}
-use Rattle.std.specs.Prelude.{IfSome, nat_lt, ◌==◌, ◌||◌, if◌then◌else◌}
+use Rattle.std.specs.Prelude.{IfSome, OnOk, nat_lt, ◌==◌, ◌||◌, if◌then◌else◌}
 use Rattle.std.proofs.lemmas.Bool.{cases_lt, lt-ltb, le-ltb}
 use Rattle.std.proofs.lemmas.List.{append_assoc, append-nil}
 use Rattle.std.proofs.lemmas.Grind.{flat_map-append}
+use Rattle.call_types.specs.declared.act.Record.{Record}
 use Rattle.call_types.specs.declared.act.ScriptAct.{ScriptAct}
+use Rattle.call_types.specs.declared.act.ScriptAct.TheVariants as asked
 use Rattle.call_types.specs.declared.limits.Limits.{Limits}
 use Rattle.script_text.specs.Lines.{totals_line}
 use Rattle.script_text.specs.ReadingScripts.{script, script_acts, followed}
 use Rattle.script_text.specs.declared.fault.Expected.{Expected}
 use Rattle.script_text.specs.declared.script.TheConstants.{SCRIPT_MAX}
 use Rattle.text_forms.specs.Scripts.{hash, plain_script}
-use Rattle.script_text.specs.ReadingResults.{ScriptFails, NextGives}
+use Rattle.script_text.specs.ReadingCalls.{reading}
+use Rattle.script_text.specs.ReadingResults.{IsReadAs as IsLineOf, ScriptFails, NextGives}
 use Rattle.script_text.specs.declared.fault.ScriptFault.{ScriptFault}
 use Rattle.record_book.specs.Book.{new_book}
 use Rattle.byte_ledger.specs.declared.tallies.Sums.{Sums}
 use Rattle.script_run.specs.RunState.{RunState}
-use Rattle.script_run.specs.Fits.{FitsRun, IsCounted}
+use Rattle.script_run.specs.Fits.{FitsRun, IsCounted, RunsFrom}
+use Rattle.script_run.specs.ToldOf.{IsRecordOf, IsToldOf}
 use Rattle.script_run.specs.declared.told.ScriptAnswer.{ScriptAnswer}
+use Rattle.script_run.specs.declared.told.ScriptAnswer.TheVariants.{Recorded, Closed, Still, Refused}
 use Rattle.script_text.specs.Spellings.{SpellsScript}
 use Rattle.script_text.specs.declared.fault.ScriptFault.TheVariants as faults
 use Rattle.posix_model.specs.History.{legal}
 use Rattle.logged_streams.specs.Streams.{LoggedWriterState, Writes}
 use Rattle.job_core.specs.Output.{AppendsFront, last_line, told_line, told_lines}
 use Rattle.job_core.specs.Replay.{Refuses, ReplayEnds, Spells, WritesReplay, WritesReplayFront, byte_at, column_in, end_at, end_in, end_in_line, ends_in_return, opens_string, read_in}
-use Rattle.job_core.specs.Proved.Running.{RunsNext, RunsOn, Gathers, RunsScript, RunsText, FailsTold}
+use Rattle.job_core.specs.Proved.Running.{IsToldAsRead, RunsNext, RunsOn, Gathers, RunsScript, RunsText, FailsTold}
 use Rattle.job_core.specs.declared.spelling.Spelling.{Spelling}
 use Rattle.job_core.specs.declared.spelling.Spelling.TheVariants as spelling
 use Rattle.job_core.proofs.ReplayLemmas.{of_input}
@@ -257,3 +262,25 @@ pub fault_of_none : (how : Spelling) (text : List ℕ) (end : JobEnd) → FailsT
 fault_of_none how text end (faults.NoMemory, is, fails) e = let bad : ended.NoMemory ≡ ended.CannotRead = sym is ∙ e in cc
 fault_of_none how text end (faults.TooLong, is, fails) e = let bad : ended.TooLong ≡ ended.CannotRead = sym is ∙ e in cc
 fault_of_none how text end (faults.BadLine line column expected, is, fails) e = line_of_none how text line (column_in how text line column) expected (sym is ∙ e)
+
+-- ---- a record was read from the line of the act that it is told of
+
+record_read : (a : ScriptAct) (r : Record) (line : List ℕ) → IsRecordOf a r → reading line ≡ Ok a → IsLineOf line r.actor r.act
+record_read asked.Join r line own read = subst (IsLineOf line r.actor) (sym own) tt
+record_read (asked.Attach process) r line own read = subst (IsLineOf line r.actor) (sym own.1) (read ∙ ap (λ p. Ok (asked.Attach p)) (sym own.0))
+record_read (asked.Call process call) r line own read = subst (IsLineOf line r.actor) (sym own.1) (read ∙ ap (λ p. Ok (asked.Call p call)) (sym own.0))
+record_read (asked.Resume process) r line own read = subst (IsLineOf line r.actor) (sym own.1) (read ∙ ap (λ p. Ok (asked.Resume p)) (sym own.0))
+record_read (asked.Exit process) r line own read = subst (IsLineOf line r.actor) (sym own.1) (read ∙ ap (λ p. Ok (asked.Exit p)) (sym own.0))
+record_read asked.CloseRun r line own read = subst (IsLineOf line r.actor) (sym own) tt
+
+pub told_as_read : (a : ScriptAct) (told : ScriptAnswer) (line : List ℕ) → IsToldOf a told → reading line ≡ Ok a → IsToldAsRead line told
+told_as_read a (Recorded told) line own read = record_read a told.record_is line own read
+told_as_read a (Closed records) line own read = tt
+told_as_read a (Still actor act) line own read = tt
+told_as_read a (Refused actor act refusal) line own read = tt
+
+-- what was told is told next, where its lines were gathered
+pub told_next : {A B : Type 0} (old new : RunState) (act : ScriptAct) (told : ScriptAnswer) (lines more : List ℕ) (put : Result A B)
+    → RunsFrom old new act told → new.limits ≡ old.limits → OnOk put (more ≡ lines ++ told_line told) → OnOk put (RunsNext old new act lines more)
+told_next old new act told lines more (Ok done) runs limits is = record { told = told; runs = runs; limits_are = limits; lines_are = is }
+told_next old new act told lines more (Err error) runs limits is = tt

@@ -1,6 +1,7 @@
 //! One run of a script: its bytes in, its lines out.
 ghost use Rattle.std.specs.Prelude.{◌≡◌, ◌+◌, ◌≤◌, [], ◌++◌, Ok, length, IfOk, IfErr, IfSome, OnOk};
 ghost use Rattle.script_text.specs.Races.{race_script};
+ghost use Rattle.script_text.specs.ReadingCalls.{reading};
 ghost use Rattle.script_text.specs.ReadingResults.{ScriptFails};
 ghost use Rattle.script_text.specs.declared.script.TheConstants.{SCRIPT_MAX};
 ghost use Rattle.job_core.specs.Reads.{ReadsFew};
@@ -106,17 +107,19 @@ pub(crate) fn read_text<R: Read>(
     }
 }
 
-/// Runs the next act, and gathers the lines of what is told of it.
+/// Runs the next act, which was read from a line, and gathers the lines of what is told of it.
 fn run_next(
     alloc: Global,
     run: &mut ScriptRun,
     act: ScriptAct,
+    line: &[u8],
     lines: &mut Vec<u8>,
 ) -> Result<(), AllocError>
+    requires { reading line.now ≡ Ok act }
     ensures { OnOk result (RunsNext run.old run.new act lines.old.items lines.new.items) }
 {
     let told = run.run_act(alloc, act);
-    put_line(lines, &told)
+    put_line(lines, line, &told)
 }
 
 /// Runs the acts that are left of a script, one after another as they are read, and gathers the lines of what is told of each.
@@ -130,7 +133,7 @@ fn run_all(
     ensures fault { IfErr result (λ fault. ScriptFails fault script.old.read) }
 {
     while let Some(act) = script.next_act(alloc)? {
-        match run_next(alloc, run, act, lines) {
+        match run_next(alloc, run, act, script.line(), lines) {
             Ok(()) => {}
             Err(_) => return Err(ScriptFault::NoMemory),
         }

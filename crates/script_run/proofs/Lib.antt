@@ -6,3 +6,4 @@ pub mod SeatLemmas
 pub mod FitsLemmas
 pub mod GoingLemmas
 pub mod ClosingLemmas
+pub mod ToldLemmas

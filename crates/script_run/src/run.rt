@@ -3,6 +3,7 @@
 ghost use Rattle.std.specs.Prelude.{◌≡◌, [], IfOk};
 ghost use Rattle.script_run.specs.RunState.{new_run};
 ghost use Rattle.script_run.specs.Fits.{FitsRun, IsCounted, RunsFrom};
+ghost use Rattle.script_run.specs.ToldOf.{IsToldOf};
 ghost use Rattle.record_book.specs.Book.{new_book};
 ghost use Rattle.script_run.specs.Proved.Going.{answer_of};
 
@@ -80,6 +81,7 @@ impl ScriptRun {
     /// Closes the run, if it is open: ends the processes without a connection, in the order of their numbers. It takes no memory.
     fn run_closing(&mut self, alloc: Global) -> ScriptAnswer
         ensures tells { RunsFrom self.old self.new ScriptAct.CloseRun result }
+        ensures own { IsToldOf ScriptAct.CloseRun result }
         ensures limits { self.new.limits ≡ self.old.limits }
     {
         if self.progress.is_closed() {
@@ -98,8 +100,10 @@ impl ScriptRun {
 
     /// Runs the next act of a script, and tells of it. What was told of the earlier acts, followed by this, is what is told of all of them.
     /// An exit and a closing are never refused for want of memory. `NoMemory` and `RunFull` leave the run as it was.
+    #[tactic(auto, using(crate::proofs::ToldLemmas::call_told, crate::proofs::ToldLemmas::resume_told, crate::proofs::ToldLemmas::join_told, crate::proofs::ToldLemmas::attach_told, crate::proofs::ToldLemmas::exit_told))]
     pub fn run_act(&mut self, alloc: Global, act: ScriptAct) -> ScriptAnswer
         ensures tells { RunsFrom self.old self.new act result }
+        ensures own { IsToldOf act result }
         ensures limits { self.new.limits ≡ self.old.limits }
     {
         processes_are_counted();

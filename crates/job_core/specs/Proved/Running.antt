@@ -4,17 +4,25 @@ use Rattle.call_types.specs.declared.act.ScriptAct.{ScriptAct}
 use Rattle.call_types.specs.declared.limits.Limits.{Limits}
 use Rattle.posix_model.specs.History.{legal}
 use Rattle.script_text.specs.ReadingScripts.{script, followed}
-use Rattle.script_text.specs.ReadingResults.{ScriptFails}
+use Rattle.script_text.specs.ReadingResults.{IsReadAs, ScriptFails}
 use Rattle.script_text.specs.declared.fault.ScriptFault.{ScriptFault}
 use Rattle.record_book.specs.Book.{BookState}
 use Rattle.script_run.specs.RunState.{RunState}
 use Rattle.script_run.specs.Runs.{RunTells, Seats}
 use Rattle.script_run.specs.Fits.{FitsRun, RunsFrom}
 use Rattle.script_run.specs.declared.told.ScriptAnswer.{ScriptAnswer}
+use Rattle.script_run.specs.declared.told.ScriptAnswer.TheVariants.{Recorded, Closed, Still, Refused}
 use Rattle.job_core.specs.Output.{last_line, told_line, told_lines}
 use Rattle.job_core.specs.declared.job_end.JobEnd.{JobEnd}
 use Rattle.job_core.specs.declared.spelling.Spelling.{Spelling}
 use Rattle.job_core.specs.Replay.{IsOutput, end_in, end_of_fault, lines_in, read_in}
+
+-- a record that is told was read from a line as its act
+abbrev pub IsToldAsRead : List ℕ → ScriptAnswer → Type 0
+IsToldAsRead line (Recorded told) = IsReadAs line told.record_is.actor told.record_is.act
+IsToldAsRead line (Closed records) = Unit {0}
+IsToldAsRead line (Still actor act) = Unit {0}
+IsToldAsRead line (Refused actor act refusal) = Unit {0}
 
 -- one act more was run, and its lines stand after the others
 pub record RunsNext (old new : RunState) (act : ScriptAct) (lines more : List ℕ) : Type 0 where
