@@ -52,7 +52,7 @@ WALKS = (
         "job_core/src/replay.rt",
         "replay",
         {"Call": "Pwrite", "Act": "Call", "ScriptAct": "Call", "FileEdit": "Bytes", "Spelling": "Plain"},
-        Most(407, 78, 23),
+        Most(420, 79, 23),
         "read_text run_script gather_lines run_all next_act read_act pwrite_call run_next run_act run_call "
         "call_refusal decide_call decide_pwrite opened pwrite_fault puts append reserve_for "
         "bytes_moved push apply write_bytes write put_line write_record put_pwrite put_outcome write_totals "
