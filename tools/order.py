@@ -156,13 +156,19 @@ class Orders:
         found = apart.parted_with_room(ordered, self.args.limits, reason_or_limit)
         if not found:
             return self.explained(history, self.args.limits)
-        self.confirm(ordered, found[-1])
+        for it in [*{it.reason: it for it in reversed(found)}.values(), found[-1]]:
+            self.confirm(ordered, it)
         first = next((it for it in found if not it.reason or it.reason.who != OWN), None)
         return self.blamed(ordered, found, first) if first else self.chosen(found, ordered[found[-1].place + 1 :])
 
     def confirm(self, ordered: Sequence[Noted], last: apart.Apart) -> None:
-        """Fails where the program does not answer the calls up to one as the model does."""
-        apart.confirm(self.program, ordered[: last.place + 1], last.limits, last.instead)
+        """Fails where the program does not answer the calls up to one as the model does, that one as it was asked, too,
+        where others are given instead of it."""
+        history = ordered[: last.place + 1]
+        apart.confirm(self.program, history, last.limits, last.instead)
+        if last.place in last.instead:
+            before = {at: acts for at, acts in last.instead.items() if at != last.place}
+            apart.confirm(self.program, history, last.limits, before)
 
     def at_once(self, history: Sequence[Noted], ordered: Sequence[Noted]) -> Result:
         """Why no order explains calls that overlap: with larger pipes, where the others have too little room and that
