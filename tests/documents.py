@@ -19,7 +19,7 @@ from support.counting import Count, require
 from support.places import TOP
 
 README = TOP / "README.md"
-README_LINES, README_WIDTH, README_WORDS = 100, 100, 700
+README_LINES, README_WIDTH, README_WORDS = 100, 100, 620
 WIDTH = 120
 WORDS = 27_000
 
