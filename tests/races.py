@@ -45,7 +45,7 @@ SECONDS = 60
 GONE_SECONDS = 10
 SEED = "acceptance"
 STANDARD = ["-std=c11", "-O2"]
-USAGE = b"usage: race_kernel [--dir DIR] [--rounds N] [--seed S] [--pin] [--wait MS] < script\n"
+USAGE = b"usage: race_kernel [--dir DIR] [--rounds N] [--seed S] [--pin] [--exchange] [--wait MS] < script\n"
 
 # How each compiler is told to make a driver or a library.
 SOURCES = {
@@ -114,6 +114,7 @@ BAD_WORDS = [
     ["--dir"],
     ["script"],
     ["--pin", "1"],
+    ["--exchange", "1"],
 ]
 
 # Bad scripts, and what is told of each.

@@ -11,7 +11,7 @@ has to be an order of the calls of a round, which keeps each process's own order
 model gives all answers that were seen. The order is searched for, and given to `fdref replay`, which has to print the
 same answers. Histories of a script that have the same answers and the same calls before others are searched once. The
 pipes of model and fdref hold 1,024 bytes, or as many as --pipe-capacity says. Where the writing end of a pipe has the
-lower number the ends change places before the race, by dup2 and close; that is told.
+lower number the ends change places at once, also within a race, by dup2 and close; that is told.
 
 A history that no order explains is told with its reason, if there is one: the page of the standard, and what is known
 of the system. The last lines count histories by kind and by reason.
@@ -50,7 +50,7 @@ from support.counting import Failure
 from support.drivers import compiled
 from support.histories import History, Noted
 from support.pipe_ends import is_turned
-from support.plain_model import DEFAULTS, OPEN_MAX, Limits
+from support.plain_model import DEFAULTS, Limits
 from support.running import CannotRun, Ran, run
 from support.runs import Line
 from support.summaries import Counts, add_summary
@@ -60,7 +60,6 @@ import apart
 import race_kinds
 import race_table
 from compare_limits import reason_or_limit
-from compare_turns import moves
 
 # A script takes a share of the time; it has so many rounds, at least and at most, and a first guess of their speed.
 ROUNDS_LEAST = 10
@@ -273,24 +272,19 @@ class Asked:
         self.turns_pipes = False
 
     def histories(self, script: str, rounds: int, seed: int) -> list[list[Noted]]:
-        """The histories of so many rounds of a script, in which the ends of the pipes before the race change places
-        where the writing end has the lower number."""
-        setup, mark, parts = script.partition("race\n")
-        moves = moves_after(setup.splitlines(), self.limits)
-        if not any(moves):
-            return self.asked(script, rounds, seed)
-        if not self.turns_pipes:
-            found = self.asked(script, rounds, seed)
-            if not any(is_turned(noted) for noted in found[0][: len(moves)]):
-                return found
-            self.turns_pipes = True
-        lines = [it for line, more in zip(setup.splitlines(), moves, strict=True) for it in (line, *more)]
-        exchanged = "".join(f"{line}\n" for line in lines) + mark + parts
-        return [without_moves(history, moves) for history in self.asked(exchanged, rounds, seed)]
+        """The histories of so many rounds of a script, in which the ends of each pipe change places where the writing
+        end has the lower number."""
+        found = [] if self.turns_pipes else self.asked(script, rounds, seed)
+        self.turns_pipes |= has_turned(found)
+        if self.turns_pipes:
+            found = self.asked(script, rounds, seed, "--exchange")
+            if has_turned(found):
+                raise CannotRun(f"not compared: race_kernel has no descriptor for {EXCHANGE}")
+        return found
 
-    def asked(self, script: str, rounds: int, seed: int) -> list[list[Noted]]:
-        """The histories of a script as it is."""
-        words = [*self.driver, "--rounds", str(rounds), "--seed", str(seed)]
+    def asked(self, script: str, rounds: int, seed: int, *more: str) -> list[list[Noted]]:
+        """The histories of a script by the driver, which is given more words."""
+        words = [*self.driver, "--rounds", str(rounds), "--seed", str(seed), *more]
         try:
             done = run(words, script.encode(), seconds=RUN_SECONDS)
         except (Failure, OSError) as fault:
@@ -307,34 +301,9 @@ class Asked:
             self.verified.add(key)
 
 
-def moves_after(setup: Sequence[str], limits: Limits) -> list[list[str]]:
-    """For each act before a race those that let the ends of a pipe change places which it makes: none where there is no
-    free descriptor for them."""
-    run = plain_model.Run(len(setup) + plain_model.RECORDS_DEFAULT, limits)
-    found: list[list[str]] = []
-    for line in setup:
-        act = plain_model.read_act(line.encode())
-        run.take(act)
-        process = run.world.processes.get(act.actor) if isinstance(act.actor, int) else None
-        ends = run.lines[-1].rstrip("\n").rpartition(" = ")[2].split(" ")
-        free = next((fd for fd in range(OPEN_MAX) if process and fd not in process.table), None)
-        is_made = act.word == "pipe" and ends[0].isdigit() and process and free is not None
-        moved = moves(process.number, *map(int, ends), free) if is_made and process and free is not None else []
-        found.append([it.decode() for it in moved])
-    return found
-
-
-def without_moves(history: Sequence[Noted], moves: Sequence[Sequence[str]]) -> list[Noted]:
-    """A history without these acts, in which the numbers of the ends of these pipes have changed places."""
-    found: list[Noted] = []
-    at = 0
-    for more in moves:
-        if at >= len(history):
-            break
-        noted = history[at]
-        found.append(noted._replace(outcome=" ".join(noted.outcome.split(" ")[::-1])) if more else noted)
-        at += 1 + len(more)
-    return [*found, *history[at:]]
+def has_turned(found: Sequence[History]) -> bool:
+    """Whether a pipe of some histories has its writing end at the lower number."""
+    return any(is_turned(noted) for history in found for noted in history)
 
 
 def last_said(done: Ran) -> str:
@@ -344,8 +313,9 @@ def last_said(done: Ran) -> str:
     return done.how() + (f": {text if len(text) <= SAID_MOST else '..' + text[-SAID_MOST:]}" if text else "")
 
 
-# What is told where the ends of the pipes of a system have changed places.
-TURNED = "which end of a pipe has the lower number (own; page of pipe): the ends have changed places before each race"
+# What is told where the ends of the pipes of a system have changed places, and what that is.
+TURNED = "which end of a pipe has the lower number (own; page of pipe): the ends have changed places at once"
+EXCHANGE = "the ends of a pipe, of which the writing one has the lower number, to change places"
 
 
 # ---- one script

@@ -1,7 +1,7 @@
 /* Lets real processes make file calls at once, at full speed, and prints when each call began and came back.
    docs/KERNELS.md has more.
 
-   usage: race_kernel [--dir DIR] [--rounds N] [--seed S] [--pin] [--wait MS] < script
+   usage: race_kernel [--dir DIR] [--rounds N] [--seed S] [--pin] [--exchange] [--wait MS] < script
 
    A script is acts as ask_kernel has them, which are made one after another, then a line `race`, and then the parts:
    the calls of one process are its part, in their order, and nothing orders the parts. Each of N rounds (1) is run by
@@ -11,7 +11,8 @@
    A round ends with its parts, or where nothing has come back for MS milliseconds (20) and each call under way is an
    open, a read or a write that sleeps, as far as that is seen: its END is `-`, and its OUTCOME `parked ?`. With a seed
    above 0, processes wait for a short random time before each call. With --pin, on Linux, process K is run by the
-   processor K modulo how many there are.
+   processor K modulo how many there are. With --exchange the ends of a pipe change places at once, by dup2 and close,
+   where the writing end has the lower number.
 
    Exit status: as ask_kernel has them. A script that cannot be raced is 3; a call that may not wait, or is none of the
    race, and has not come back after ten seconds is 7. */
@@ -72,7 +73,7 @@ static struct process processes[PROCESSES_MOST];
 static struct common *common;
 static unsigned long long seed, shuffle;
 static long long begun;
-static int is_pinned;
+static int is_pinned, exchanges_ends;
 
 /* Ends all processes of the script, also one that is not in the group yet, and waits until they are gone. */
 static void clean_up(void)
@@ -288,6 +289,23 @@ static unsigned long long next_random(void)
     return shuffle;
 }
 
+/* Lets the ends of a pipe change places where the writing end has the lower number, which nobody else sees; gives which
+   one has it then. They stay where no descriptor can be had for that. */
+static long long exchanged(long long first, struct answer *answer)
+{
+    int reading = (int)first, writing = (int)answer->other, between;
+    if (!exchanges_ends || reading < writing)
+        return first;
+    limit_files(2 * OPEN_FILES);
+    between = dup(writing);
+    limit_files(OPEN_FILES);
+    if (between < 0)
+        return first;
+    must(dup2(reading, writing) == writing && dup2(between, reading) == reading && close(between) == 0);
+    answer->other = first;
+    return writing;
+}
+
 /* Makes the call of a step, between two looks at the clock. */
 static void make_call(struct step *step)
 {
@@ -297,6 +315,8 @@ static void make_call(struct step *step)
     atomic_store_explicit(&note->state, UNDER_WAY, memory_order_release);
     value = called(&step->act, step->bytes, step->into, &note->answer);
     note->end = now();
+    if (step->act.call == PIPE && value >= 0)
+        value = exchanged(value, &note->answer);
     set_answer(&step->act, value, &note->answer);
     came_back(step);
 }
@@ -608,6 +628,10 @@ static int read_option(const char *word, const char *value, const char **dir, lo
 static int read_words(int count, char **words, const char **dir, long long *rounds)
 {
     for (int at = 1; at < count; at++) {
+        if (strcmp(words[at], "--exchange") == 0) {
+            exchanges_ends = 1;
+            continue;
+        }
 #ifdef __linux__
         if (strcmp(words[at], "--pin") == 0) {
             is_pinned = 1;
@@ -629,7 +653,8 @@ int main(int count, char **words)
     dir = dir && *dir ? dir : "/tmp";
     if (is_help || !read_words(count, words, &dir, &rounds)) {
         FILE *to = is_help ? stdout : stderr;
-        fprintf(to, "usage: race_kernel [--dir DIR] [--rounds N] [--seed S] [--pin] [--wait MS] < script\n");
+        fprintf(to, "usage: race_kernel [--dir DIR] [--rounds N] [--seed S] [--pin] [--exchange] [--wait MS] "
+                    "< script\n");
         return is_help ? 0 : USAGE;
     }
     read_script();

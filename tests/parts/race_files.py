@@ -1,5 +1,6 @@
 """Races of files on the system at hand, and what tools/race.py tells of them."""
 
+import shlex
 import sys
 from collections.abc import Iterator, Sequence
 from functools import partial
@@ -135,6 +136,16 @@ def choice_is_told(tools: Tools, before: str, setup: str, calls: Sequence[str], 
     require(done.status == status and lines[2].strip() == told, done.said() + f" {lines}")
 
 
+def turned_is_not_compared(tools: Tools) -> None:
+    """Where the ends of a pipe cannot change places nothing is compared, which is told."""
+    turned = [f"20 21 p0 pipe = 1 0\n22 23 {NONE}\n", "20 21 p0 pipe = 0 1\n"]
+    words = made_up(tools, "turned", turned, "0 1 p0 join = 0\n2 3 p1 join = 1\n")
+    Path(words[0]).write_text("join\njoin\nrace\np0 pipe\np1 read 0 1\n")
+    done = tools.race(*words)
+    told = b"not compared: race_kernel has no descriptor for the ends of a pipe, of which the writing one has the lower "
+    same((3, b"", b"race.py: " + told + b"number, to change places\n"), (done.status, done.stdout, done.stderr))
+
+
 def setup_is_told(tools: Tools) -> None:
     """What the system answers otherwise before the race is told first, and is status 1 without a reason."""
     done = tools.race(*made_up(tools, "setup", MADE_UP[:1], SETUP.replace("= 0 1", "= 3 4")))
@@ -263,6 +274,7 @@ def tool_cases(tools: Tools) -> Iterator[Case]:
     for choice in CHOICES:
         yield f"a choice: {choice[2][0]}", partial(choice_is_told, tools, *choice)
     yield "before the race", partial(setup_is_told, tools)
+    yield "ends of a pipe that cannot change places", partial(turned_is_not_compared, tools)
     yield "times", partial(times_are_judged, tools)
     yield "times and room", partial(room_is_a_reason_of_times, tools)
     yield "other times of an answer that is not allowed", other_times_are_judged
@@ -319,6 +331,40 @@ def is_found(tools: Tools, way: str, name: str, library: str) -> None:
         raise Failure(f"{name} does not find it")
 
 
+# Two processes of a race that each make pipes, the second of them one in place of its first file, what is allowed, and
+# what is told.
+PIPES = """join
+join
+p1 open f rw,creat
+race
+p0 pipe
+p0 write 1 x61
+p0 read 0 9
+p0 pipe
+p0 write 3 x63
+p0 read 2 9
+p1 close 0
+p1 pipe
+p1 write 1 x62
+p1 read 0 9
+"""
+PIPES_TOLD = """allowed, and seen
+      10    0 0 1, 1, x61, 2 3, 1, x63, ok, 0 1, 1, x62
+"""
+PIPES_LAST = "10 rounds; outcomes: 1 allowed, 1 of them seen; 0 seen and not allowed, 0 of them without a reason\n"
+
+
+def turned_in_race(tools: Tools, library: str, way: str, told: str) -> None:
+    """Pipes that are made within a race are compared, whichever end has the lower number."""
+    driver, file = Path(tools.folder, f"{way}-pipes-driver"), Path(tools.folder, f"{way}-pipes.race")
+    words = ["env", f"WRONG_SYSTEM={way}", f"LD_PRELOAD={library}", *tools.driver]
+    driver.write_text(f'#!/bin/sh\nexec {shlex.join(words)} "$@"\n')
+    driver.chmod(0o755)
+    file.write_text(PIPES)
+    done = tools.race(str(file), "--seconds", "0", "--driver", str(driver))
+    same(Ran(0, f"{PIPES_TOLD}{told}{PIPES_LAST}".encode(), b""), done)
+
+
 def example_cases(tools: Tools) -> Iterator[Case]:
     """Each example on the system at hand."""
     for file in sorted(RACES.glob("*.race")):
@@ -327,5 +373,7 @@ def example_cases(tools: Tools) -> Iterator[Case]:
 
 
 def wrong_cases(tools: Tools, library: str) -> Iterator[Case]:
-    """Wrong systems, each of which an example finds."""
+    """Wrong systems, each of which an example finds, and a right one whose pipes are the other way round."""
+    for way, told in ("none", ""), ("turned", f"{race.TURNED}\n"):
+        yield f"pipes within a race: {way}", partial(turned_in_race, tools, library, way, told)
     yield from ((f"{way} by {name}", partial(is_found, tools, way, name, library)) for way, name in WRONG.items())
