@@ -456,8 +456,8 @@ def struck_acts_are_told(bench: Bench) -> None:
     """The last line names the acts that were struck."""
     if not IS_LINUX:
         return
-    status, lines = says(bench, b"join\np0 pipe\np0 write 1 61*3000\np0 write 1 62*2000\n")
-    last = "       2 acts were struck and not compared: p0 write 1 61*3000; p0 write 1 62*2000"
+    status, lines = says(bench, b"join\np0 mkfifo f\np0 open f rw\np0 mkfifo g\np0 open g rw\n")
+    last = "       2 acts were struck and not compared: p0 open f rw; p0 open g rw"
     require((status, lines[-1]) == (0, last), f"status {status}: {lines}")
 
 

@@ -5,8 +5,8 @@ usage: tools/compare.py [--text] SCRIPT-OR-FOLDER...
        tools/compare.py --random N --seed S [--first K] [--acts A] [--class small|full-pipes|all] [--summary FILE]
 
 Both take --pipe-capacity N: with as many bytes as a pipe of the system holds (65,536 on Linux) also writes that fill
-pipes are compared. Where it counts bytes, and not pages, that is done without N too, as soon as they differ. --ask
-COMMAND asks another driver, and --seconds N ends it where it does not answer.
+pipes are compared. Without N that is done as soon as they differ, up to 65,536 bytes. --ask COMMAND asks another
+driver, and --seconds N ends it where it does not answer.
 
 Each script is run by tools/ask_kernel.c, with a real process for each of its processes. The acts of
 the run that happened are then given to `fdref replay`, and the two are compared line by line; a `?`
@@ -55,7 +55,7 @@ from compare_instead import ways
 from compare_limits import FEWER
 from compare_lines import SECONDS, Asked, first_unfit, in_other_order, is_at_once, moved
 from compare_reasons import OWN, REASONS, TOO_MANY_LINKS, Difference, Reason, appended_to, follows_append
-from compare_reasons import is_more_links, is_room, process_of, reason_of, room_left, told_reason
+from compare_reasons import is_more_links, is_room, pages_of, process_of, reason_of, room_left, told_reason
 from compare_runs import Known, act_of, ends_of_closing, is_told_back, places_of_script, together
 from compare_walks import CLASSES, MANY_LINKS, class_of, random_lines, with_marks
 from waits import Long
@@ -104,6 +104,17 @@ class Beside:
         self.sizes: dict[int, int] = {}
         # the writes in which processes waited that have ended
         self.ended: list[plain_model.WaitingWrite] = []
+        # how many pages what was put into each pipe since it was empty takes at most
+        self.pages: dict[plain_model.Pipe, int] = {}
+
+    def take(self, act: plain_model.Act) -> None:
+        """Takes an act, and counts pages."""
+        live = self.run.world.processes.values()
+        held = {at.pipe: len(at.pipe.data) for process in live for at in process.table.values() if at.pipe}
+        self.run.take(act)
+        for pipe, before in held.items():
+            more = max(len(pipe.data) - before, 0)
+            self.pages[pipe] = self.pages.get(pipe, 0) + pages_of(more) if pipe.data else 0
 
     def world_before(self, place: int) -> plain_model.World:
         """The world before a line, which is none of those that were asked for already."""
@@ -116,7 +127,7 @@ class Beside:
                 call = process.waits if process and act.word == "exit" else None
                 self.ended += [call] if isinstance(call, plain_model.WaitingWrite) else []
                 for text in self.known.given(self.lines, at):
-                    self.run.take(plain_model.read_act(text.encode()))
+                    self.take(plain_model.read_act(text.encode()))
         self.place = place
         return self.run.world
 
@@ -176,7 +187,7 @@ def difference_at(asked: Asked, beside: Beside, fdref: list[Line], place: int) -
     system = beside.lines
     difference = Difference(place, system, system[place], fdref[place], beside.world_before(place))
     difference.has_same_room, difference.counts_bytes = asked.has_same_room, asked.counts_bytes
-    difference.room_seen = asked.room_seen
+    difference.room_seen, difference.pages = asked.room_seen, dict(beside.pages)
     difference.size_before, difference.ended = beside.sizes.get(place - 1), beside.ended
     difference.for_fdref = {at: beside.known.given(system, at) for at in beside.known.instead}
     difference.is_of_model = beside.known.is_of_model()

@@ -105,14 +105,15 @@ class Asked:
 
     def with_room(self) -> "Asked | None":
         """The same, where pipes of fdref hold as many bytes as those of the system; or None where they do, or cannot,
-        or where the system does not count bytes."""
+        or where these have neither bytes nor whole pages."""
         can_have = PIPE_CAPACITY_LEAST <= self.all_room <= PIPE_CAPACITY_MOST
-        if self.has_same_room or not self.counts_bytes or not can_have:
+        is_known = self.counts_bytes or self.all_room % PAGE == 0
+        if self.has_same_room or not can_have or not is_known:
             return None
         other = copy.copy(self)
         other.limits = self.limits._replace(capacity=self.all_room)
         other.has_same_room = True
-        other.pipe_buf = other.most_at_once()
+        other.pipe_buf = other.most_at_once() if other.counts_bytes else PIPE_BUF
         return other
 
     def run(self, words: list[str], script: bytes, who: str) -> bytes:

@@ -49,6 +49,8 @@ class Difference:
         self.has_same_room = self.counts_bytes = False
         # how many bytes it was seen to hold, in whatever pieces they came
         self.room_seen = 0
+        # how many pages what was put into each pipe since it was empty takes at most, where that is known
+        self.pages: dict[plain_model.Pipe, int] | None = None
         # whether it is a pipe whose ends have changed places since
         self.is_exchanged = False
         # how long the file was before the pwrite under append that it follows, if that is known
@@ -351,6 +353,19 @@ def is_room(it: Difference) -> bool:
     return has_other_room and is_moved(it.fdref) and may_give(it, it.system)
 
 
+def pages_of(count: int) -> int:
+    """How many pages so many bytes take at most, which one call has moved."""
+    return -(-count // PAGE)
+
+
+def has_free_pages(it: Difference, pipe: plain_model.Pipe) -> bool:
+    """Whether more of a write fits into the pages that a pipe has free in any case than went in on the system."""
+    if it.pages is None:
+        return False
+    free = pipe.capacity - PAGE * it.pages.get(pipe, 0)
+    return it.count() <= free or (it.system.isdigit() and int(it.system) < free)
+
+
 def is_paged_room(it: Difference) -> bool:
     """A write to a pipe for which the system has as many bytes as are asked for, but in pages of which some are not
     full; or a read of one to which a write of more than PIPE_BUF bytes has gone on less.
@@ -366,7 +381,7 @@ def is_paged_room(it: Difference) -> bool:
         return is_paged_resume(it, call)
     if it.words("read"):
         return is_paged_read(it, pipe)
-    if not it.words("write") or not may_give(it, it.system) or not is_moved(it.fdref):
+    if not it.words("write") or not may_give(it, it.system) or not is_moved(it.fdref) or has_free_pages(it, pipe):
         return False
     held, fdref = len(pipe.data), moved(it.fdref)
     # how many bytes of a large write have gone in is not seen on the system while it waits

@@ -344,14 +344,21 @@ def beside_is_told(program: str, folder: str, script: str, line: str, wanted: st
 
 # Systems that move less than there is room for, as a later write shows.
 ONE_BYTE = "join\np0 pipe\np0 setfl 1 -,nonblock\np0 write 1 61*{}\n" + "p0 write 1 62*600\n" * 3
-REFUSED = "join\np0 pipe\np0 setfl 1 -,nonblock\np0 write 1 61*40000\np0 write 1 62*5000\n{}p0 write 1 63*5000\n"
+REFUSED = "join\np0 pipe\np0 setfl 1 -,nonblock\n{}p0 write 1 62*5000\n{}p0 write 1 63*5000\n"
+TORN = "join\np0 pipe\np0 setfl 1 -,nonblock\np0 write 1 61*65300\np0 write 1 62*300\n"
+# 40,000 bytes that take sixteen pages, and ten.
+MANY_PAGES, FEW_PAGES = "p0 write 1 61*2500\n" * 16, "p0 write 1 61*40000\n"
 PAGED = ["--pipe-capacity", "65536"]
 LESS = [
     ("writes-one-byte", ONE_BYTE.format(100), [], "p0 write 1 62*600 = 1", ""),
     ("writes-one-byte", ONE_BYTE.format(512), [], "p0 write 1 62*600 = 1", "2 bytes"),
-    ("has-pages-once", REFUSED.format(""), PAGED, "p0 write 1 62*5000 = error EAGAIN", "5000 bytes"),
+    ("has-pages-once", REFUSED.format(MANY_PAGES, ""), PAGED, "p0 write 1 62*5000 = error EAGAIN", "5000 bytes"),
+    ("has-pages", REFUSED.format(FEW_PAGES, "p0 read 0 1\n"), PAGED, "p0 write 1 62*5000 = error EAGAIN", ""),
+    ("has-pages", REFUSED.format(FEW_PAGES, "p0 read 0 1\n"), [], "p0 write 1 62*5000 = error EAGAIN", ""),
+    ("tears-beside-pages", REFUSED.format(FEW_PAGES, "p0 read 0 1\n"), [], "p0 write 1 62*5000 = 4096", ""),
+    ("tears-beside-pages", TORN, [], "p0 write 1 62*300 = 236", ""),
 ]
-NOT_LESS = ("has-pages", REFUSED.format("p0 read 0 1\n"), PAGED)
+NOT_LESS = ("has-pages", REFUSED.format(MANY_PAGES, "p0 read 0 1\n"), PAGED)
 
 
 def less_is_seen(

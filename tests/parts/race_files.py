@@ -138,7 +138,7 @@ def choice_is_told(tools: Tools, before: str, setup: str, calls: Sequence[str], 
 
 def turned_is_not_compared(tools: Tools) -> None:
     """Where the ends of a pipe cannot change places nothing is compared, which is told."""
-    turned = [f"20 21 p0 pipe = 1 0\n22 23 {NONE}\n", "20 21 p0 pipe = 0 1\n"]
+    turned = [f"20 21 p0 pipe = {ends}\n22 23 p1 read 0 1 = error EBADF\n" for ends in ("1 0", "0 1")]
     words = made_up(tools, "turned", turned, "0 1 p0 join = 0\n2 3 p1 join = 1\n")
     Path(words[0]).write_text("join\njoin\nrace\np0 pipe\np1 read 0 1\n")
     done = tools.race(*words)

@@ -94,6 +94,7 @@ ROOMY = {
     "has-pages": plain_model.Limits(capacity=65_536),
     "tears-small-writes": plain_model.Limits(capacity=16_384),
     "has-pages-once": plain_model.Limits(capacity=65_536),
+    "tears-beside-pages": plain_model.Limits(capacity=65_536),
 }
 # Systems that are right, with pipes of 4,096 bytes and a larger PIPE_BUF: from how many bytes on a write that waits is
 # told as one of which it is not seen how much went in.
@@ -377,6 +378,16 @@ def paged_write(is_refused_once: bool) -> Callable[..., plain_model.Reply]:
     return write
 
 
+def paged_and_torn(
+    world: plain_model.World, process: plain_model.Process, at: plain_model.Description, data: bytes
+) -> plain_model.Reply:
+    """A write to a pipe with pages under nonblock that moves what there is room for, at most PIPE_BUF bytes, too; and
+    of 5,000 bytes after 40,000 a page."""
+    assert at.pipe
+    most = 4_096 if len(data) == 5_000 and len(at.pipe.data) == 40_000 else at.pipe.room() or len(data)
+    return paged_write(False)(world, process, at, data[:most] if at.nonblock else data)
+
+
 def paged_room(pipe: plain_model.Pipe) -> int:
     """How many bytes more go into a pipe with pages."""
     return max(pipe.capacity - len(pipe.data) - EMPTY.get(pipe, 0), 0)
@@ -428,6 +439,10 @@ OTHERWISE: dict[str, list[tuple[type, str, Callable[..., object]]]] = {
     "has-pages-once": [
         (plain_model.Pipe, "room", paged_room),
         (plain_model.World, "write_end", paged_write(True)),
+    ],
+    "tears-beside-pages": [
+        (plain_model.Pipe, "room", paged_room),
+        (plain_model.World, "write_end", paged_and_torn),
     ],
     "waits-beside-room": [
         (plain_model.World, "write", waits_beside),
