@@ -24,9 +24,9 @@ first of it; --keep has all. A difference after it is told to may follow from it
 if any, else from the last; one of what is written to a stream, from the first. Under --strict it ends the
 program. Calls that the C library makes inside are not seen: so printf is lost where dup2 puts a file of fdref
 at descriptor 1. Not judged are closefrom, an execl of more than 31 words, and the format of dprintf, which the
-library answers by itself in both runs; that is told. Nor is a signal that a call blocks which waits for nobody,
-as dup2. Of threads one makes a call at a time, so where one waits the others do, which is told at once on
-standard error.
+library answers by itself in both runs; that is told. Of a call that waits for nobody, as dup2, it is not seen
+where it blocks a signal alone, but where it blocks all or lets one come. Of threads one makes a call at a time,
+so where one waits the others do, which is told at once on standard error.
 
 Judged are the answers of the system, and not the program: a mistake of it that is the same in both runs
 is agreement.

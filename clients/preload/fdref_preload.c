@@ -472,7 +472,8 @@ static int close_between(unsigned first, unsigned last, int flags, closes_range 
     if (is_off() || is_behind || first > last)
         return next(first, last, flags);
     if (how == NATIVE)
-        return (int)let_in(note_closed(first, last, flags, (int)BEHIND(close_others(first, last, flags, next))));
+        return (int)let_in(
+            note_closed(first, last, flags, (int)BEHIND_OF("close_range", close_others(first, last, flags, next))));
     return close_others(close_low(first, last, (flags & KEEPS_TILL_EXEC) != 0), last, flags, next);
 }
 

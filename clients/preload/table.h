@@ -104,8 +104,6 @@ static int64_t back(int64_t value)
     return value;
 }
 
-#define BEHIND(call) (go_behind(), back(call))
-
 /* Hands on a value, once it is logged. Signals come again. */
 static int64_t let_in(int64_t value)
 {

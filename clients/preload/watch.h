@@ -54,6 +54,62 @@ static void after_call(const struct masked *before, const char *name)
     errno = error;
 }
 
+/* The system's sigaction, as it is behind that of this library. */
+static int system_sigaction(int number, const struct sigaction *to, struct sigaction *was)
+{
+    static int (*next)(int, const struct sigaction *, struct sigaction *);
+    int done;
+    find(&next, "sigaction");
+    is_setting = 1;
+    done = next(number, to, was);
+    is_setting = 0;
+    return done;
+}
+
+/* A call that waits for nobody is made with all signals blocked, which is undone after it. Two are not, where they do
+   nothing and the program has not blocked them: so it is seen where a call blocks all signals, or lets one come. */
+static const int idle_signals[] = {SIGURG, SIGWINCH};
+enum { IDLE_SIGNALS = sizeof idle_signals / sizeof *idle_signals };
+
+static int is_idle(int number)
+{
+    struct sigaction action;
+    return sigismember(&quiet_behind.signals, number) == 0 && system_sigaction(number, NULL, &action) == 0
+           && action.sa_handler == SIG_DFL;
+}
+
+static struct masked mask_behind(void)
+{
+    struct masked before = {is_watching(), runs, {{0}}};
+    sigset_t idle;
+    int error = errno;
+    sigemptyset(&idle);
+    for (int at = 0; before.is_known && at < IDLE_SIGNALS; at++)
+        if (is_idle(idle_signals[at]))
+            sigaddset(&idle, idle_signals[at]);
+    if (before.is_known)
+        before.is_known = pthread_sigmask(SIG_UNBLOCK, &idle, NULL) == 0
+                          && pthread_sigmask(SIG_BLOCK, NULL, &before.signals) == 0;
+    errno = error;
+    return before;
+}
+
+static __thread struct masked masked_behind;
+
+static int64_t looked_at_mask(const char *name, int64_t value)
+{
+    int error = errno;
+    sigset_t now;
+    if (masked_behind.is_known && masked_behind.runs == runs && pthread_sigmask(SIG_BLOCK, NULL, &now) == 0
+        && !are_same(&masked_behind.signals, &now))
+        note_wrong(name, "has changed which signals are blocked");
+    errno = error;
+    return value;
+}
+
+#define BEHIND_OF(name, call) (go_behind(), masked_behind = mask_behind(), looked_at_mask(name, back(call)))
+#define BEHIND(call) BEHIND_OF(__func__, call)
+
 /* ---- SIGPIPE
 
    The line of a write comes before what its SIGPIPE does. So a process of one thread counts the signal meanwhile, and
@@ -67,18 +123,6 @@ struct keeping {
     struct sigaction action;
 };
 static __thread struct keeping *keeper;
-
-/* The system's sigaction, as it is behind that of this library. */
-static int system_sigaction(const struct sigaction *to, struct sigaction *was)
-{
-    static int (*next)(int, const struct sigaction *, struct sigaction *);
-    int done;
-    find(&next, "sigaction");
-    is_setting = 1;
-    done = next(SIGPIPE, to, was);
-    is_setting = 0;
-    return done;
-}
 
 static int has_pending(int number)
 {
@@ -106,7 +150,7 @@ static void count_pipes(struct keeping *it)
     memset(&own, 0, sizeof own);
     own.sa_flags = SA_SIGINFO | (it->action.sa_flags & (SA_RESTART | SA_ONSTACK));
     own.sa_sigaction = keep_pipe;
-    it->keeps = system_sigaction(&own, NULL) == 0 ? COUNTS : KEEPS_NONE;
+    it->keeps = system_sigaction(SIGPIPE, &own, NULL) == 0 ? COUNTS : KEEPS_NONE;
     keeper = it;
 }
 
@@ -116,14 +160,14 @@ static struct keeping *pause_keeping(void)
     struct keeping *it = keeper;
     keeper = NULL;
     if (it && it->keeps == COUNTS)
-        system_sigaction(&it->action, NULL);
+        system_sigaction(SIGPIPE, &it->action, NULL);
     return it;
 }
 
 static void go_on_keeping(struct keeping *it)
 {
     int error = errno;
-    if (it && it->keeps == COUNTS && system_sigaction(NULL, &it->action) == 0 && it->action.sa_handler != SIG_IGN)
+    if (it && it->keeps == COUNTS && system_sigaction(SIGPIPE, NULL, &it->action) == 0 && it->action.sa_handler != SIG_IGN)
         count_pipes(it);
     else if (it)
         it->keeps = KEEPS_NONE;
@@ -146,7 +190,7 @@ static void keep_pipes(struct keeping *it)
     it->runs = runs;
     pthread_sigmask(SIG_BLOCK, NULL, &signals);
     it->is_blocked = sigismember(&signals, SIGPIPE) == 1;
-    it->is_ignored = system_sigaction(NULL, &it->action) == 0 && it->action.sa_handler == SIG_IGN;
+    it->is_ignored = system_sigaction(SIGPIPE, NULL, &it->action) == 0 && it->action.sa_handler == SIG_IGN;
     if (it->is_blocked || it->is_ignored || keeper)
         return;
     if (is_watching() && is_alone()) {
@@ -181,8 +225,8 @@ static void let_pipes(struct keeping *it, const char *name, int64_t given, uint6
     note_pipes(it, name, is_due, is_due || (given >= 0 && (uint64_t)given < count));
     if (it->keeps == COUNTS) {
         keeper = NULL;
-        if (system_sigaction(NULL, &now) == 0 && now.sa_sigaction == keep_pipe)
-            system_sigaction(&it->action, NULL);
+        if (system_sigaction(SIGPIPE, NULL, &now) == 0 && now.sa_sigaction == keep_pipe)
+            system_sigaction(SIGPIPE, &it->action, NULL);
         for (int at = 0; at < it->came; at++)
             system_syscall(SYS_tgkill, (long)getpid(), system_syscall(SYS_gettid), (long)SIGPIPE);
     } else if (it->keeps == BLOCKS) {

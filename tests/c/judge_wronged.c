@@ -174,6 +174,17 @@ static void keep_flags_after_thread(void)
     fcntl(ends[0], F_GETFD);
 }
 
+/* Descriptors are closed while a signal is blocked. */
+static void close_blocked(void)
+{
+    sigset_t one;
+    sigemptyset(&one);
+    sigaddset(&one, SIGUSR1);
+    sigprocmask(SIG_BLOCK, &one, NULL);
+    close_range((unsigned)ends[0], (unsigned)ends[1], 0);
+    raise(SIGUSR1);
+}
+
 static void hear(int number) { heard += number == SIGUSR1; }
 static void hear_more(int number, siginfo_t *info, void *context) { heard += info->si_signo == number && context; }
 
@@ -270,6 +281,7 @@ int main(int count, char **words)
         {"pipe-broken", break_pipe},    {"early-signal", hear_signals},
         {"stat-size", look},            {"never-back", copy_to},
         {"mask-kept", heed},            {"pipe-twice", break_heard},
+        {"mask-dup2", copy_to},         {"mask-range", close_blocked},
         {"pipe-unsent", break_heard},   {"pipe-blocked", break_heard},
         {"wait-status", await},         {"wait-early", await},
         {"wait-none", await},           {"exec-cut", run_again},

@@ -15,6 +15,8 @@
    early-signal    a read is EINTR though no handler has run
    pipe-broken     a write that is EPIPE ends a process that ignores SIGPIPE
    mask-kept       a read leaves all signals blocked
+   mask-dup2       dup2 leaves all signals blocked
+   mask-range      close_range lets a signal come that is blocked
    pipe-twice      a write that is EPIPE sends SIGPIPE once more
    pipe-unsent     a write that is EPIPE sends no SIGPIPE
    pipe-blocked    a write leaves SIGPIPE blocked
@@ -195,7 +197,21 @@ int close(int fd) { return is_wrong("close-kept") ? 0 : (int)syscall(SYS_close, 
 int dup2(int fd, int to)
 {
     long done = fd == to ? to : syscall(SYS_dup3, fd, to, 0);
+    sigset_t all;
+    sigfillset(&all);
+    if (is_wrong("mask-dup2"))
+        sigprocmask(SIG_BLOCK, &all, NULL);
     return is_wrong("dup2-zero") ? 0 : (int)done;
+}
+
+int close_range(unsigned first, unsigned last, int flags)
+{
+    sigset_t one;
+    sigemptyset(&one);
+    sigaddset(&one, SIGUSR1);
+    if (is_wrong("mask-range"))
+        sigprocmask(SIG_UNBLOCK, &one, NULL);
+    return (int)syscall(SYS_close_range, first, last, flags);
 }
 
 int dup3(int fd, int to, int flags)

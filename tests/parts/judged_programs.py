@@ -677,6 +677,8 @@ WRONGED = {
     "early-signal": "system: p0 read 3 1 = error EINTR",
     "pipe-broken": "verdict: a difference: signal 13 (SIGPIPE) has ended p0 on the system, which ignores it",
     "mask-kept": f"{OF_SYSTEM}p0 read: has changed which signals are blocked",
+    "mask-dup2": f"{OF_SYSTEM}p0 dup2: has changed which signals are blocked",
+    "mask-range": f"{OF_SYSTEM}p0 close_range: has changed which signals are blocked",
     "pipe-twice": f"{OF_SYSTEM}p0 write: SIGPIPE has come 2 times, where EPIPE has come 1 times",
     "pipe-unsent": f"{OF_SYSTEM}p0 write: SIGPIPE has come 0 times, where EPIPE has come 1 times",
     "pipe-blocked": f"{OF_SYSTEM}p0 write: has changed which signals are blocked",
