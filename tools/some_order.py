@@ -12,12 +12,12 @@ calls that have a reason to differ. A call that a signal ended has done nothing,
 
 import bisect
 import itertools
-from collections.abc import Sequence
+from collections.abc import Iterator, Mapping, Sequence
 from typing import NamedTuple
 
 from support import plain_model
 from support.auditing import act_of
-from support.call_logs import Log, call_of, is_wait, word_of
+from support.call_logs import Log, Way, call_of, is_wait, word_of
 from support.histories import UNKNOWN, Noted
 from support.ordering import ROOMY
 from support.plain_model import TRANSFER_MAX, Limits
@@ -284,6 +284,64 @@ def read_act(text: str) -> plain_model.Act:
         raise Open(f"{text} is no call of fdref") from None
 
 
+# ---- bytes that are lost
+
+
+Use = tuple[Way, Line]
+
+
+def pipe_calls(log: Log, way: Way, ends: Mapping[str, int]) -> Iterator[tuple[int, Use]]:
+    """The reads and writes of a process, and of those that come of it, at pipes, each with the id of the line that made
+    its pipe."""
+    known, children = dict(ends), 0
+    for line in log.calls.get(way, []):
+        word, *fields = call_of(line).split(" ")
+        if word in ("read", "write"):
+            yield from [(known[fields[0]], (way, line))] if known.get(fields[0]) else []
+        elif is_fork(line):
+            yield from pipe_calls(log, (*way, children), known)
+            children += 1
+        elif word == "pipe" and not line.outcome.startswith("error "):
+            known.update(dict.fromkeys(line.outcome.split(" "), id(line)))
+        elif word in ("open", "dup2"):
+            known[line.outcome] = known.get(fields[0], 0) if word == "dup2" else 0
+        elif word == "close" and line.outcome == "ok":
+            known.pop(fields[0], None)
+
+
+def has_lost(log: Log) -> bool:
+    """Whether a pipe of a system has lost bytes, as no order explains, however large it is."""
+    uses: dict[int, list[Use]] = {}
+    for pipe, use in pipe_calls(log, min(log.calls), {}):
+        uses.setdefault(pipe, []).append(use)
+    return any(map(is_lossy, uses.values()))
+
+
+def is_lossy(uses: Sequence[Use]) -> bool:
+    """Whether the process that alone reads a pipe has not got the first bytes that its only writer has written, or is
+    told the end of it before it has got all that anyone has."""
+    reads = [(way, given) for way, line in uses if (given := given_by(line)) is not None]
+    writes = [(way, line) for way, line in uses if word_of(line) == "write"]
+    if len({way for way, _ in reads}) != 1 or any(line.outcome == "error EPIPE" for _, line in writes):
+        return False
+    got, is_over = b"".join(given for _, given in reads), any(not given for _, given in reads)
+    put = b"".join(written_by(line) for _, line in writes)
+    is_one = len({way for way, _ in writes}) == 1
+    return (is_over and len(got) < len(put)) or (is_one and put[: len(got)] != got[: len(put)])
+
+
+def given_by(line: Line) -> bytes | None:
+    """What a read of at least a byte has given, or None."""
+    is_asked = word_of(line) == "read" and not line.act.endswith(" 0")
+    return plain_model.read_data(line.outcome.encode()) if is_asked else None
+
+
+def written_by(line: Line) -> bytes:
+    """The bytes that a write has moved."""
+    data = plain_model.read_data(line.act.split(" ")[-1].encode()) or b""
+    return data[: int(line.outcome)] if line.outcome.isdigit() else b""
+
+
 # ---- searching
 
 
@@ -359,6 +417,8 @@ def ordered_of(compared: Compared, program: list[str], doubt: str, seconds: floa
 def found_for(compared: Compared, program: list[str], doubt: str, seconds: float) -> Ordered:
     """The same, where it can be asked."""
     builder, roomy = Builder(compared), Builder(compared, True)
+    if not doubt and not builder.has_threads() and has_lost(compared.system):
+        return none_in(builder)
     if any(line.outcome == "error EINTR" and not compared.is_ended(line) for line in compared.system_lines):
         return none_in(builder)
     if search(builder, compared.limits, program, seconds):

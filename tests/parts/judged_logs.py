@@ -661,10 +661,24 @@ def one_by_one(text: str) -> str:
     return "; ".join(found)
 
 
+def one_after_another(acts: Sequence[str]) -> str:
+    """The lines of a trace."""
+    return "; ".join(f"{at} {act}" for at, act in enumerate(acts))
+
+
 # A child has the writing end of a pipe until it exits, which its parent waits for, before it reads.
 A_LAST_WRITER = "p0 pipe = 0 1; p0 fork = 1; p0 setfl 0 r,nonblock = ok; p0 close 1 = ok; p1 close 0 = ok"
 EXITS_HERE = (
     A_PIPE + "4 p0 setfl 0 r,nonblock = ok; 5 p0 close 1 = ok; 6 p1 close 0 = ok; 7 p1 exit = ok; 8 p0 read 0 1 = x"
+)
+
+# A child writes 5,000 bytes, one by one as its parent reads them in the run with fdref.
+MANY = "p0 pipe = 0 1; p0 fork = 1; p0 close 1 = ok; " + 5 * "p1 write 1 61*1000 = 1000; " + "p1 close 1 = ok; "
+MANY += 4 * "p0 read 0 1000 = 61*1000; "
+MANY_HERE = one_after_another(
+    ["p0 join = 0", "p0 pipe = 0 1", "p0 fork = 1", "p1 attach = ok", "p0 close 1 = ok"]
+    + 5 * ["p1 write 1 61*1000 = 1000", "p0 read 0 1000 = 61*1000"]
+    + ["p1 close 1 = ok", "p0 read 0 9 = x"]
 )
 
 # The line of the wait has bytes 127 to 144.
@@ -714,6 +728,17 @@ ORDERS = [
         f"a difference: {NO_ORDER}",
         1,
     ),
+    *[
+        Orders(
+            f"a pipe of one reader, through which more than a page goes, and of which it gets {what}",
+            f"{MANY}p0 read 0 1000 = {last}; p0 read 0 9 = x",
+            MANY_HERE,
+            NO_ORDER,
+            f"a difference: {NO_ORDER}",
+            1,
+        )
+        for what, last in (("a byte less", "61*999"), ("other bytes", "62*1000"))
+    ],
     Orders(
         "writes whose order is known by their lines",
         TWO + "p2 write 1 x6262 = 2; p2 close 0 = ok; p1 close 0 = ok; p1 write 1 x6161 = 2; p0 read 0 9 = x61616262",
