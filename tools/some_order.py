@@ -303,8 +303,8 @@ def pipe_calls(log: Log, way: Way, ends: Mapping[str, int]) -> Iterator[tuple[in
             children += 1
         elif word == "pipe" and not line.outcome.startswith("error "):
             known.update(dict.fromkeys(line.outcome.split(" "), id(line)))
-        elif word in ("open", "dup2"):
-            known[line.outcome] = known.get(fields[0], 0) if word == "dup2" else 0
+        elif word in ("open", "dup", "dup2"):
+            known[line.outcome] = 0 if word == "open" else known.get(fields[0], 0)
         elif word == "close" and line.outcome == "ok":
             known.pop(fields[0], None)
 

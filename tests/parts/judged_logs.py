@@ -740,6 +740,14 @@ ORDERS = [
         for what, last in (("a byte less", "61*999"), ("other bytes", "62*1000"))
     ],
     Orders(
+        "a pipe of one reader, to which a process writes by two descriptors",
+        "p0 pipe = 0 1; p0 fork = 1; p1 dup 1 = 2; p1 write 2 x62 = 1; p1 write 1 x61 = 1; p0 read 0 9 = x6261",
+        A_PIPE + "4 p1 dup 1 = 2; 5 p1 write 2 x62 = 1; 6 p0 read 0 9 = x62; 7 p1 write 1 x61 = 1",
+        f"reason: {AN_ORDER}",
+        f"agreement: {AN_ORDER}",
+        0,
+    ),
+    Orders(
         "writes whose order is known by their lines",
         TWO + "p2 write 1 x6262 = 2; p2 close 0 = ok; p1 close 0 = ok; p1 write 1 x6161 = 2; p0 read 0 9 = x61616262",
         TWO_HERE + "6 p2 write 1 x6262 = 2; 7 p2 close 0 = ok; 8 p1 close 0 = ok; 9 p1 write 1 x6161 = 2; "
