@@ -347,17 +347,27 @@ class Both(NamedTuple):
     system_past: bytes = b""
     # the calls in which its processes were when it was killed, by their numbers, or the program itself as it crashed
     inside: Mapping[int, str] = {}
+    # how many of its processes have exited by themselves
+    exited: int = 0
 
 
-# What stands at the end of what native processes share: of each the number of one more than its own, and its call.
+# What stands at the end of what native processes share: of each the number of one more than its own, and its call; and
+# before that the exits that they have made.
 INSIDE = struct.Struct("@Q8s")
-INSIDE_MOST = 1024
+EXIT = struct.Struct("@Q")
+INSIDE_MOST = EXITS_MOST = 1024
 
 
 def inside_of(shared: bytes) -> dict[int, str]:
     """The calls in which native processes are, by their numbers."""
     found = INSIDE.iter_unpack(shared[-INSIDE.size * INSIDE_MOST :])
     return {number - 1: name.rstrip(b"\0").decode("ascii", "replace") for number, name in found if number}
+
+
+def exited_in(shared: bytes) -> int:
+    """How many native processes have exited by themselves, at least."""
+    end = len(shared) - INSIDE.size * INSIDE_MOST
+    return sum(said > 0 for (said,) in EXIT.iter_unpack(shared[end - EXIT.size * EXITS_MOST : end]))
 
 
 class Looker:
@@ -479,12 +489,13 @@ class Job:
             raise NotJudged("; ".join([lost, *why, *past.told_past(past.past_of(self.past("fdref")))]))
         shared = Path(self.folder, "shared")
         system, system_log = self.ran("system", FDREF_SHARED=str(shared))
-        inside = inside_of(shared.read_bytes()) if shared.exists() else {}
+        told = shared.read_bytes() if shared.exists() else b""
+        inside = inside_of(told)
         if system.status is not None:
             # of a child that a signal ended it is not known whether it came from another process
             inside = {0: inside[0]} if 0 in inside and -system.status in CRASHES else {}
         noted = self.past("fdref"), still.told, self.past("system")
-        return Both(system, fdref, system_log, fdref_log, trace, *noted, inside)
+        return Both(system, fdref, system_log, fdref_log, trace, *noted, inside, exited_in(told))
 
     def audited(self) -> str:
         """What the audit says of the trace."""
@@ -614,8 +625,14 @@ class Verdict:
         ways = {number: way for way, number in compared.fdref.numbers.items()}
         exited = {ways.get(line.number() or 0, ()) for line in records[:first] if word_of(line) == "exit"}
         are_gone = all(compared.system.numbers.get(way) in gone for way in exited)
+        are_gone = are_gone or self.are_others_gone()
         is_one = self.both.system.status is None or compared.processes == 1
         return is_one and are_left and is_plain and is_same and are_gone
+
+    def are_others_gone(self) -> bool:
+        """Whether all processes of the system have exited but for those that are in such a call."""
+        forks = sum(map(some_order.is_fork, self.compared.system_lines))
+        return self.both.exited >= forks + 1 - len({it.way for it in self.stuck})
 
     def wrong_signals(self) -> list[str]:
         """What is said of signals that have ended a process on the system which ignores them, and of SIGPIPE where it

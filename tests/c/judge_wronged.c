@@ -213,6 +213,18 @@ static void read_beside(void)
     read(ends[0], bytes, 1);
 }
 
+/* Nobody waits for the child before its parent reads to the end. */
+static void read_to_end(void)
+{
+    if (fork() == 0) {
+        write(ends[1], "x", 1);
+        _exit(0);
+    }
+    close(ends[1]);
+    read(ends[0], bytes, 1);
+    read(ends[0], bytes, 1);
+}
+
 /* Handlers run between calls, and none in a read. */
 #pragma GCC diagnostic ignored "-Wdeprecated-declarations"
 static void hear_signals(void)
@@ -289,7 +301,7 @@ int main(int count, char **words)
         {"access-refused", ask},        {"read-beyond", take_few},
         {"cloexec-thread", keep_flags_after_thread},
         {"restart-lost", restart},      {"never-beside", read_beside},
-        {"read-crashes", take_few},
+        {"read-crashes", take_few},     {"end-hangs", read_to_end},
     };
     own_path = words[0];
     if (count != 2 || pipe(ends) != 0)

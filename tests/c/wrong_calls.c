@@ -30,6 +30,7 @@
    cloexec-thread  F_GETFD gives 0
    restart-lost    sigaction sets no SA_RESTART
    never-beside    a read never comes back
+   end-hangs       a read of a pipe never comes back at its end
    read-crashes    a read ends the process by SIGSEGV */
 
 #define _GNU_SOURCE
@@ -67,6 +68,8 @@ ssize_t read(int fd, void *to, size_t count)
         errno = EINTR;
     if (done > 0 && is_wrong("read-beyond"))
         ((char *)to)[count] ^= 1;
+    while (done == 0 && count > 0 && is_wrong("end-hangs"))
+        pause();
     if (done != 0 || count == 0 || syscall(SYS_lseek, fd, 0L, SEEK_CUR) >= 0 || !is_wrong("dry-end"))
         return done;
     errno = EAGAIN;

@@ -970,6 +970,8 @@ def order_cases(program: str) -> Iterator[Case]:
     """Each entry of the table of orders, and what is told of answers that are not judged."""
     for orders in ORDERS:
         yield orders.name, partial(is_ordered, program, orders)
+    for exited, status in ((0, 3), (1, 1)):
+        yield f"a read that hangs at an end, and {exited} exits", partial(hangs_at_the_end, program, exited, status)
     yield "the first answer that is not judged", tells_hidden
     yield "a child that a signal ended", tells_signals
     yield "a search that is given up", gives_up
@@ -1388,6 +1390,28 @@ def is_left(noted: str, status: int) -> None:
     same(status, judge.Verdict(both, "legal 3 rest 0").status())
 
 
+STUCK = "a difference: p0 read 0 1 has not come back on the system, which was killed in it"
+
+
+def hangs_at_the_end(program: str, exited: int, status: int) -> None:
+    """A read that has not come back at the end of a pipe is a difference where its only writer has exited, though nobody
+    waited for that; else who comes first may be why."""
+    trace = lines_of(f"{A_PIPE}4 p0 close 1 = ok; 5 p1 exit = ok; 6 p0 read 0 1 = x")
+    system = as_bytes(native_lines("p0 pipe = 0 1; p0 fork = 1; p0 close 1 = ok"))
+    logs = system, as_bytes(logged(trace))
+    both = judge.Both(KILLED, WELL, *logs, trace_of(trace), inside={0: "read"}, exited=exited)
+    verdict = judge.Verdict(both, "legal 7 rest 0", program=[program])
+    same(status, verdict.status())
+    require(status == 3 or judge.told_verdict(verdict) == f"verdict: {STUCK}", judge.told_verdict(verdict))
+
+
+def counts_exits() -> None:
+    """Exits are counted in what native processes share, beside the calls in which they are."""
+    exits = [0, 5 << 32, 0, 6 << 32 | 7] + 1020 * [0]
+    shared = b"\1" * 64 + b"".join(map(judge.EXIT.pack, exits)) + judge.INSIDE.pack(1, b"read") + bytes(16 * 1023)
+    same((2, {0: "read"}, 0), (judge.exited_in(shared), judge.inside_of(shared), judge.exited_in(b"")))
+
+
 def is_unlike(log: str) -> None:
     """A log of fdref that is not that of the trace is compared with nothing."""
     trace = lines_of("0 p0 join = 0; 1 p0 pipe = 0 1; 2 p0 read 0 1 = parked 0")
@@ -1447,6 +1471,7 @@ def cases() -> Iterator[Case]:
         ("! 1 p0 path chdir\t/", 3),
     ):
         yield f"a call that the system did not answer, after {noted}", partial(is_left, noted, status)
+    yield "exits that are counted", counts_exits
     for noted, said in FLAGS_BY.items():
         yield f"a flag that is not as it was set, after {noted}", partial(tells_flags, noted, said)
     for looked in LOOKED:

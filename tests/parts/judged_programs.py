@@ -691,6 +691,7 @@ WRONGED = {
     "read-beyond": f"{OF_SYSTEM}p0 read: has changed what is beyond its buffer",
     "restart-lost": f"{OF_SYSTEM}p0 sigaction: has set SA_RESTART otherwise than it was asked for",
     "never-beside": f"{DIFFERS}p0 read 3 1 has not come back on the system, which was killed in it",
+    "end-hangs": f"{DIFFERS}p0 read 3 1 has not come back on the system, which was killed in it",
     "read-crashes": f"{DIFFERS}p0 read 3 2 has not come back on the system, where signal 11 (SIGSEGV) ended it",
     "cloexec-thread": "1 answer about FD_CLOEXEC differs from what was set: system: p0 fcntl F_GETFD 3 = 0",
 }
