@@ -49,6 +49,7 @@ test:
 # the unproved program is called by a script that tells so
 ifneq (,$(filter out/unproved/fdref %/out/unproved/fdref,$(PROGRAM)))
 INSTALL_PROGRAM = $(INSTALL) -D -m 755 $(PROGRAM) $(TO)/share/fdref/out/unproved/fdref && \
+    $(INSTALL) -m 644 tools/telling.sh $(TO)/share/fdref/out/unproved && \
     $(INSTALL) -D -m 755 tools/unproved.sh $(TO)/bin/fdref
 else
 INSTALL_PROGRAM = rm -rf $(TO)/share/fdref/out && $(INSTALL) -D -m 755 $(PROGRAM) $(TO)/bin/fdref

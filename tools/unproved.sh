@@ -1,5 +1,6 @@
 #!/bin/sh
-# The unproved program where it is installed, which says so as ./fdref --unproved does. It is bin/fdref of its prefix.
+# The unproved program where it is installed, which tells so as ./fdref --unproved does, and what it waits for. It is
+# bin/fdref of its prefix.
 set -eu
 
 # the folder of this file, also where it is called by a link
@@ -12,5 +13,10 @@ while [ -h "$self" ]; do
     esac
 done
 prefix=$(CDPATH='' cd -- "$(dirname -- "$self")/.." && pwd)
-echo "fdref: this answer is not proved" >&2
-exec "$prefix/share/fdref/out/unproved/fdref" "$@"
+unproved=$prefix/share/fdref/out/unproved
+
+. "$unproved/telling.sh"
+tell "this answer is not proved"
+tell_fifos "$@"
+tell_slowness "$@"
+exec "$unproved/fdref" "$@"
