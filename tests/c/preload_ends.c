@@ -165,6 +165,7 @@ static int tell_limits(void)
     if (getrlimit(RLIMIT_NOFILE, &was) != 0 || prlimit(getpid(), RLIMIT_NOFILE, &was, &now) != 0)
         return errno;
     dprintf(1, "%d %d %d %d\n", (int)was.rlim_cur, (int)was.rlim_max, (int)now.rlim_cur, (int)now.rlim_max);
+    dprintf(1, "%d %d\n", (int)sysconf(_SC_OPEN_MAX), getdtablesize());
     was.rlim_cur = 31;
     return of(prlimit(0, RLIMIT_NOFILE, &was, NULL));
 }

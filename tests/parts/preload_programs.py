@@ -415,11 +415,12 @@ def refuses(program: str, library: Library) -> None:
 
 
 def tells_limits(program: str, library: Library) -> None:
-    """How many numbers there are is fdref's limit, which cannot be changed; how many there could be is the system's."""
+    """How many numbers there are is fdref's limit, which cannot be changed, where the system has more; how many there
+    could be is the system's."""
     most = resource.getrlimit(resource.RLIMIT_NOFILE)[1]
     with Server(program, 1) as server:
-        given = asking(library, server, [library.program("preload_ends"), "limits"])
-        same(Ran(errno.ENOSYS, b"32 %d 32 %d\n" % (most, most), b""), given.ran)
+        given = asking(library, server, [library.program("preload_ends"), "limits"], before="ulimit -S -n 64")
+        same(Ran(errno.ENOSYS, b"32 %d 32 %d\n32 32\n" % (most, most), b""), given.ran)
 
 
 def prints_to_the_end(program: str, library: Library) -> None:
