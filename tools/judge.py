@@ -268,12 +268,12 @@ def run_within(words: Sequence[str], what: str, seconds: float) -> Ran:
 
 
 def built_shim(folder: str) -> str:
-    """The shim, as it is compiled into a folder."""
+    """The shim, as it is compiled into a folder: quickly, since its calls wait for the server in any case."""
     compiler = os.environ.get("CC", "cc")
     path = os.path.join(folder, "libfdref_preload.so")
     if not shutil.which(compiler):
         raise CannotJudge(f"no C compiler {compiler}: $CC names another one, and --shim a built library")
-    words = [compiler, "-O2", "-shared", "-fPIC", "-o", path, str(SHIM), "-ldl"]
+    words = [compiler, "-O0", "-shared", "-fPIC", "-o", path, str(SHIM), "-ldl"]
     ran = run_within(words, f"{compiler} to compile the library", BUILD_SECONDS)
     if ran.status != 0:
         raise CannotJudge(f"{SHIM.relative_to(TOP)} is not compiled: {ran.said()}")
