@@ -16,7 +16,7 @@ socket in a fresh folder, and plays its clients:
     each client has counted must sum to the line. The places that they were told must be all that there
     are, and in the order of the places each answer must be that of the plain model. Run K
     of a seed makes the same choices each time, but the server may order the calls otherwise,
-  - the client in clients/python and the example that uses it,
+  - the client in clients/python and the example that uses it, also in children of os.fork and with signals,
   - command lines, sockets that cannot be made, connections that cannot be taken, threads that cannot
     be started, and output that fails.
 
@@ -41,7 +41,7 @@ import time
 from collections.abc import Callable, Iterator, Sequence
 from functools import partial
 
-from parts import crowds, python_client
+from parts import crowds, python_children, python_client
 from support.causes import SAID, names_cause, unaccepted
 from support.counting import Case, Count, Failure, require, same
 from support.frames import JOIN, attach_frame, call_frame, framed, recorded, u32
@@ -863,6 +863,7 @@ def main(words: Sequence[str]) -> int:
         ("conversations that are written out", written_out(program)),
         ("clients that vanish and hostile ones", hostile(program)),
         ("the client in Python", python_client.cases(program)),
+        ("children and signals of the client in Python", python_children.cases(program)),
         ("command lines and the system", system_cases(program)),
         ("two clients in turns", at_the_same_time(program, args.runs)),
         ("64 clients", crowds.cases(program, args.seed, args.crowds, args.calls)),

@@ -177,6 +177,20 @@ def exits(program: str) -> None:
         server.ended(report(1 + EXITS, 3 + 7 * EXITS))
 
 
+def full_while_waiting(program: str) -> None:
+    """Where the run is full when a call could go on, the call is refused, and the process has ended."""
+    with Server(program, 2, 9) as server, joined(server) as process:
+        same((0, 1), process.pipe())
+        with fdref.attach(server.path, process.fork()) as other:
+            process.on_wait = lambda place, moved: other.write(1, b"hello")
+            same("RunFull", raises(fdref.Refused, process.read, 0, 5).reason)
+            same((4, [(4, 0)]), (process.place, process.waits))
+            same("6 p0 exit = ok", until_traced(server, 7)[6])
+            # of either kind: the server may still read the request, or not
+            require(isinstance(raised_by(process.close, 0), ConnectionError), "the process goes on")
+        server.ended(report(2, 9, 5, 0))
+
+
 class BrokenOff(Exception):
     """What breaks off a call."""
 
@@ -310,7 +324,7 @@ def with_an_ended_server(is_taken: bool) -> None:
         thread.start()
         raised = raises(ConnectionResetError, lambda: fdref.join(listener.path, within=SECONDS))
         thread.join(SECONDS)
-        wanted = (errno.ECONNRESET, "the server ended before it had a place for this process", listener.path)
+        wanted = (errno.ECONNRESET, "the server ended, or had no memory or no thread for this process", listener.path)
         same(wanted, (raised.errno, raised.strerror, raised.filename))
 
 
@@ -511,6 +525,7 @@ def cases(program: str) -> Iterator[Case]:
     yield "each call of the client", partial(calls, program)
     yield "what the client raises", partial(faults, program)
     yield "an exit of the client", partial(exits, program)
+    yield "a run that is full while the client waits", partial(full_while_waiting, program)
     yield "a call of the client that is broken off", partial(broken_off, program)
     yield "a server without a place", partial(without_a_place, program)
     yield "a queue without a place", with_a_full_queue

@@ -14,7 +14,12 @@ one thread at a time may use it; give each process a thread of its own.
 
 A server takes as many connections as its `--sessions` says, or its descriptors allow. One more connects, but nothing
 ever answers it; `join` and `attach` then raise NoPlace. Other answers are waited for without a limit, unless
-`process.timeout` is set.
+`process.timeout` is set. `tools/waiting.py` (installed: `fdref-waiting`) tells of the trace of a run, also while the
+server runs, which processes wait, and for whom.
+
+A child of `os.fork`, and of multiprocessing where that forks, has each connection that its parent had open, and should
+call `forget` for each process of its parent's: else a parent that is killed leaves that process there as long as the
+child lives.
 
 Each answer has a place in the record of the run, and `process.place` is that of the last one. A call
 that has to wait is answered more than once: first that it waits, and at last its reply. Its method
@@ -27,10 +32,11 @@ What a call can end in:
   - `CallError`, an OSError whose `errno` is that of the answer (EBADF and so on) and which has the
     answer's `place`. It is never a ConnectionError, so that EPIPE and a lost server are told apart;
   - `Refused`, where the run could not record the call; its `reason` is RunFull, NoMemory, Waiting,
-    NotHere or Foreign. The process may go on;
+    NotHere or Foreign. The process may go on, but not after RunFull in a call that waits: its session ends then, and
+    the next call is a ConnectionError, nearly always ConnectionResetError;
   - ConnectionError, where the connection is lost, or what came is no answer of the call. The process
     has ended then, as it has after a call that is broken off in any other way, by KeyboardInterrupt or
-    by what `on_wait` raises;
+    by what `on_wait` or the handler of a signal raises, which comes out of the call as it is;
   - `NoAnswer`, a TimeoutError, where no answer came within `process.timeout`. The process has ended then, too;
   - OverflowError or ValueError, where an argument has no place in a request. Nothing was sent.
 
@@ -65,7 +71,9 @@ docs/FORMATS.md has the bytes of requests, answers and traces, and docs/PROFILE.
 from __future__ import annotations
 
 import errno
+import math
 import os
+import select
 import socket
 import stat
 import struct
@@ -73,6 +81,7 @@ import time
 import warnings
 from collections.abc import Callable, Iterable, Sequence
 from dataclasses import dataclass
+from functools import partial
 from typing import Any, NamedTuple
 
 # The flags of an open that reads neither nor writes, which is EINVAL. (O_RDONLY is 0, so no flag at
@@ -101,8 +110,15 @@ FIRST_ANSWER = 10.0
 # How many seconds an exit waits at most for the server to close the connection. One that runs does so at once.
 EXIT_WITHIN = 10.0
 
-# What is told where the connection is at its end.
+# What is told where the connection is at its end, and where it was so before the first answer.
 CLOSED = "the server has closed the connection"
+UNPLACED = "the server ended, or had no memory or no thread for this process"
+
+# How a connection tells that it is lost.
+LOST = (errno.ECONNRESET, errno.ENOTCONN, errno.EPIPE)
+
+# The longest single wait that the system takes, in milliseconds.
+WAIT_MOST = 2**31 - 1
 
 ERRORS = (
     "EBADF EINVAL ESPIPE EFBIG EOVERFLOW ENOENT EEXIST EMLINK "
@@ -126,7 +142,8 @@ class CallError(OSError):
 
 
 class Refused(Exception):
-    """A call that the run did not record, and why."""
+    """A call that the run did not record, and why. The process may go on, but not after RunFull in a call that waits:
+    its session ends then, and the next call is a ConnectionError, nearly always ConnectionResetError."""
 
     def __init__(self, reason: str) -> None:
         super().__init__(reason)
@@ -164,7 +181,8 @@ def join(path: str | os.PathLike[str], within: float = 0) -> Process:
 
     `within` is in seconds. A server that is only starting is waited for so long, and its first answer no longer than
     that from the call on; where it is 0 the server has to be there, and its first answer is waited for FIRST_ANSWER
-    seconds. NoPlace: the connection was made, and no answer came. ConnectionResetError: the server ended before that.
+    seconds. NoPlace: the connection was made, and no answer came. ConnectionResetError: the server ended before that,
+    or had no memory or no thread for the process.
     """
     return Process(path, b"\x01", within=within)
 
@@ -176,7 +194,10 @@ def attach(path: str | os.PathLike[str], pid: int, within: float = 0) -> Process
 
 
 class Process:
-    """A process, and the connection that it lives as long as. `join` and `attach` make one."""
+    """A process, and the connection that it lives as long as. `join` and `attach` make one.
+
+    At the end of a `with` block it exits. Another Python process than the one that entered the block, a child of
+    `os.fork`, only forgets it there."""
 
     def __init__(
         self, path: str | os.PathLike[str], opening: bytes, pid: int | None = None, within: float = 0
@@ -188,8 +209,12 @@ class Process:
         self.on_wait: Callable[[int, int], Any] | None = None
         """Called with a place and a number of bytes when an answer tells that the call waits."""
         self._path = os.fspath(path)
+        self._timeout: float | None = None
+        self._entered_by = os.getpid()
+        self._received = bytearray()
         self._socket = socket.socket(socket.AF_UNIX, socket.SOCK_STREAM)
-        self._answers = self._socket.makefile("rb")
+        # whatever waits does so by `_wait`
+        self._socket.setblocking(False)
         try:
             number = self._begin(opening, within)
         except BaseException:
@@ -203,13 +228,13 @@ class Process:
         """How many seconds may pass in which nothing comes of an answer that is waited for, or in which the server
         takes nothing of a request; None, at the beginning, where there is no limit. After that the call ends in
         NoAnswer. Each answer that a call waits begins a new wait. A limit of 0 or less is a ValueError."""
-        return self._socket.gettimeout()
+        return self._timeout
 
     @timeout.setter
     def timeout(self, seconds: float | None) -> None:
-        if seconds is not None and seconds <= 0:
+        if seconds is not None and not seconds > 0:
             raise ValueError(f"a limit of {seconds} seconds leaves no time for an answer")
-        self._socket.settimeout(seconds)
+        self._timeout = None if seconds is None else float(seconds)
 
     def _begin(self, opening: bytes, within: float) -> Any:
         """Connects, and returns the value of the first answer."""
@@ -222,60 +247,70 @@ class Process:
         except NoAnswer:
             raise NoPlace(self._path) from None
         except ConnectionError as fault:
-            if not isinstance(fault, ConnectionResetError) and fault.args != (CLOSED,):
+            if fault.errno != errno.ECONNRESET and fault.args != (CLOSED,):
                 raise
-            why = "the server ended before it had a place for this process"
-            raise ConnectionResetError(errno.ECONNRESET, why, self._path) from None
+            raise ConnectionResetError(errno.ECONNRESET, UNPLACED, self._path) from None
         self.timeout = None
         return number
 
     def _connect(self, until: float, until_placed: float) -> None:
         """Connects; until the first time also where nobody listens there yet, and until the second one also where so
         many others wait to be taken that the system has no room for one more."""
-        # so a full queue is told, and not waited for
-        self._socket.settimeout(FIRST_ANSWER)
-        while True:
-            try:
-                return self._socket.connect(self._path)
-            except BlockingIOError:
+        while number := self._socket.connect_ex(self._path):
+            if number == errno.EAGAIN:
+                # the queue is full
                 if time.monotonic() >= until_placed:
-                    raise NoPlace(self._path) from None
-            except OSError as fault:
-                is_starting = isinstance(fault, FileNotFoundError | ConnectionRefusedError)
-                if not is_starting or time.monotonic() >= until:
-                    if fault.errno is not None:
-                        fault.filename = self._path
-                    raise
+                    raise NoPlace(self._path)
+            elif number not in (errno.ENOENT, errno.ECONNREFUSED) or time.monotonic() >= until:
+                raise OSError(number, os.strerror(number), self._path)
             time.sleep(0.01)
 
     def __enter__(self) -> Process:
+        self._entered_by = os.getpid()
         return self
 
     def __exit__(self, *_: object) -> None:
-        self.exit()
+        if os.getpid() == self._entered_by:
+            self.exit()
+        else:
+            self.forget()
+
+    def forget(self) -> None:
+        """Lets go of the connection in this Python process, and tells the server nothing: the process goes on where
+        another Python process has the connection. Later calls raise ConnectionError, as after `exit`; a later `exit`,
+        and the end of a `with` block, does nothing.
+
+        It is wanted in a child of `os.fork`, and of multiprocessing where that forks, for each process of the parent's.
+        Else a parent that is killed, or ends without an `exit`, leaves its process there as long as the child lives,
+        and a read of a pipe of which that has the other end waits on; and an `exit` in the child ends the process of
+        the parent."""
+        self._close()
 
     def exit(self) -> None:
         """Ends the process, as `os._exit` does: the server closes its descriptors. Its exit is recorded when this returns,
         unless the connection was lost, or the server did not close it within EXIT_WITHIN seconds, or `timeout` if that is
-        less: that is told by a RuntimeWarning."""
+        less: that is told by a RuntimeWarning. After an `exit` or `forget` it does nothing."""
+        if self._socket.fileno() < 0:
+            return
         within = EXIT_WITHIN if self.timeout is None else min(EXIT_WITHIN, self.timeout)
         try:
-            self._socket.shutdown(socket.SHUT_WR)
-            self._socket.settimeout(within)
-            # the server closes the connection once it has recorded the exit
-            while self._socket.recv(ANSWER_MOST):
-                pass
-        except TimeoutError:
+            self._shut_down(time.monotonic() + within)
+        except NoAnswer:
             told = f"{self._path}: the server has not closed the connection in {within} seconds"
             warnings.warn(f"{told}: the exit may not be recorded yet", RuntimeWarning, stacklevel=2)
-        except OSError:
-            pass
         finally:
             self._close()
 
+    def _shut_down(self, until: float) -> None:
+        """Says that no request comes any more, and waits until the server closes the connection, as it does once it has
+        recorded the exit."""
+        _unless_lost(partial(self._socket.shutdown, socket.SHUT_WR))
+        receive = partial(_unless_lost, partial(self._socket.recv, ANSWER_MOST))
+        while self._move(select.POLLIN, receive, until):
+            pass
+
     def _close(self) -> None:
         """Closes the connection, by which the process ends, perhaps later."""
-        self._answers.close()
         self._socket.close()
 
     # -- names
@@ -375,13 +410,9 @@ class Process:
     def _exchange(self, request: bytes) -> Any:
         """Sends a request and returns the value of its reply, which is its last answer."""
         self.waits = []
-        try:
-            self._socket.sendall(_number(len(request), 4) + request)
-        except TimeoutError:
-            raise self._no_answer() from None
-        except BrokenPipeError:
-            # its number is that of an answer about a pipe
-            raise ConnectionResetError(errno.ECONNRESET, CLOSED, self._path) from None
+        rest = memoryview(_number(len(request), 4) + request)
+        while rest:
+            rest = rest[self._move(select.POLLOUT, partial(self._send, rest), self._until()) :]
         while True:
             answer = self._receive()
             try:
@@ -402,17 +433,43 @@ class Process:
         return self._receive_exactly(length)
 
     def _receive_exactly(self, count: int) -> bytes:
-        try:
-            some = self._answers.read(count)
-        except TimeoutError:
-            raise self._no_answer() from None
-        if len(some) < count:
-            raise ConnectionError(CLOSED)
-        return some
+        while len(self._received) < count:
+            some = self._move(select.POLLIN, partial(self._socket.recv, ANSWER_MOST), self._until())
+            if not some:
+                raise ConnectionError(CLOSED)
+            self._received += some
+        taken = bytes(self._received[:count])
+        del self._received[:count]
+        return taken
 
-    def _no_answer(self) -> NoAnswer:
-        """What tells that the limit has passed."""
-        return NoAnswer(f"no answer in {self.timeout} seconds", self._path)
+    def _send(self, some: memoryview) -> int:
+        try:
+            return self._socket.send(some)
+        except BrokenPipeError:
+            # its number is that of an answer about a pipe
+            raise ConnectionResetError(errno.ECONNRESET, CLOSED, self._path) from None
+
+    def _until(self) -> float:
+        """When a wait that begins now has to end."""
+        return time.monotonic() + (math.inf if self.timeout is None else self.timeout)
+
+    def _move(self, event: int, move: Callable[[], Any], until: float) -> Any:
+        """What a receive or a send gives, which waits until then for its event."""
+        while True:
+            try:
+                return move()
+            except BlockingIOError:
+                pass
+            self._wait(event, until)
+
+    def _wait(self, event: int, until: float) -> None:
+        """Waits for an event of the connection. NoAnswer: it is late. Nothing else is taken for that, since the handler
+        of a signal may raise a TimeoutError, too; where one returns the wait goes on, no longer than until then."""
+        poll = select.poll()
+        poll.register(self._socket, event)
+        while not poll.poll(min(max(until - time.monotonic(), 0) * 1_000, WAIT_MOST)):
+            if time.monotonic() >= until:
+                raise NoAnswer(f"no answer in {self.timeout} seconds", self._path)
 
     def _read_answer(self, answer: bytes, asked: int) -> tuple[bool, Any]:
         """Whether an answer to a request of this byte tells that the call waits, and its value."""
@@ -435,6 +492,16 @@ class Process:
             outcome = _os_flags(outcome)
         self.place = place
         return waits, outcome.moved if waits else outcome
+
+
+def _unless_lost(move: Callable[[], Any]) -> Any:
+    """What a connection gives that is at its end anyway, or None where it is lost."""
+    try:
+        return move()
+    except OSError as fault:
+        if fault.errno not in LOST:
+            raise
+        return None
 
 
 # -- outcomes
