@@ -287,9 +287,9 @@ class Process:
         self._close()
 
     def exit(self) -> None:
-        """Ends the process, as `os._exit` does: the server closes its descriptors. Its exit is recorded when this returns,
-        unless the connection was lost, or the server did not close it within EXIT_WITHIN seconds, or `timeout` if that is
-        less: that is told by a RuntimeWarning. After an `exit` or `forget` it does nothing."""
+        """Ends the process, as `os._exit` does: the server closes its descriptors. Its exit is recorded when this
+        returns, unless the connection was lost, or the server did not close it within EXIT_WITHIN seconds, or `timeout`
+        if that is less: that is told by a RuntimeWarning. After an `exit` or `forget` it does nothing."""
         if self._socket.fileno() < 0:
             return
         within = EXIT_WITHIN if self.timeout is None else min(EXIT_WITHIN, self.timeout)
