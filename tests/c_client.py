@@ -12,7 +12,7 @@ link, and
     the connection must be lost,
   - each function must give what POSIX has, each call and each error must be the model's, and frames may be as large as
     they can be. A server that ends must end no client. System calls that are interrupted, or move few bytes, must
-    change nothing,
+    change nothing, and each limit must hold while a timer interrupts them,
   - 64 clients at once make random calls, N of them in C (10,000 where no number is given), and as many by the client
     in Python. In the order of the places each answer must be that of the plain model. A seed makes the same choices
     each time, but the server may order the calls otherwise,

@@ -96,7 +96,8 @@ struct fdref *fdref_attach_within(const char *path, pid_t child, unsigned second
 const char *fdref_no_process(int number);
 
 /* Limits how many seconds may pass in which nothing comes of an answer that is waited for, or in which the server takes
-   nothing of a request; 0, as at the beginning, is no limit. Each answer that a call waits begins a new wait. */
+   nothing of a request; 0, as at the beginning, is no limit. Each answer that a call waits begins a new wait, and a
+   signal does not. */
 void fdref_answer_within(struct fdref *p, unsigned seconds);
 
 /* Ends a process, as _exit does, and frees it. Its exit is recorded when this gives 0. It gives ETIMEDOUT where a limit
@@ -310,7 +311,9 @@ struct fdref_outcome fdref_result_flags(int result);
 #include <string.h>
 #include <sys/socket.h>
 #include <sys/time.h>
+#include <sys/times.h>
 #include <sys/un.h>
+#include <time.h>
 
 /* Where a system has no such flag it has SO_NOSIGPIPE. */
 #ifdef MSG_NOSIGNAL
@@ -709,9 +712,11 @@ static int fdref_read_outcome(const unsigned char *bytes, size_t size, struct fd
 /* ---- connections */
 
 /* A process, and its last call: the act, where what it reads goes, the greatest value that it may give, how it went on,
-   and its last outcome. `frame` is that of the last request, or of the last answer. */
+   and its last outcome. `limit` is how many milliseconds one wait may take, or 0. `frame` is that of the last request,
+   or of the last answer. */
 struct fdref {
     int socket, returns_when_parked, refusal, act, is_parked;
+    unsigned limit;
     pid_t number;
     void *buffer;
     uint64_t most, place, waits;
@@ -745,6 +750,35 @@ static int64_t fdref_lose(struct fdref *p, int number)
     return fdref_refuse(p, FDREF_LOST, number);
 }
 
+/* Milliseconds of a clock that nobody sets, and the greatest step of it. Where a program asks its system for C alone, as
+   by -std=c99, CLOCK_MONOTONIC is not there. */
+#ifdef CLOCK_MONOTONIC
+enum { FDREF_STEP = 1 };
+static int64_t fdref_now(void)
+{
+    struct timespec now;
+    clock_gettime(CLOCK_MONOTONIC, &now);
+    return (int64_t)now.tv_sec * 1000 + now.tv_nsec / 1000000;
+}
+#else
+enum { FDREF_STEP = 20 };
+static int64_t fdref_now(void)
+{
+    struct tms unused;
+    return (int64_t)times(&unused) * 1000 / sysconf(_SC_CLK_TCK);
+}
+#endif
+
+/* When a wait ends that begins now, and may take so many milliseconds; 0 milliseconds are no limit. */
+static int64_t fdref_until(unsigned limit) { return limit > 0 ? fdref_now() + limit + FDREF_STEP : INT64_MAX; }
+
+/* How many milliseconds are left until then, one at least. */
+static unsigned fdref_left(int64_t until)
+{
+    int64_t left = until - fdref_now();
+    return left < 1 ? 1 : left < INT_MAX ? (unsigned)left : INT_MAX;
+}
+
 /* Limits how long one recv, send or connect of a socket may take; 0 milliseconds are no limit. */
 static void fdref_limit(int socket, unsigned milliseconds)
 {
@@ -758,26 +792,59 @@ static void fdref_limit(int socket, unsigned milliseconds)
 /* So many seconds in milliseconds, or the most that there are. */
 static unsigned fdref_milliseconds(unsigned seconds) { return seconds < INT_MAX / 1000 ? seconds * 1000 : INT_MAX; }
 
-void fdref_answer_within(struct fdref *p, unsigned seconds)
+/* Limits how many milliseconds one wait of a process may take. */
+static void fdref_limit_waits(struct fdref *p, unsigned limit)
 {
+    p->limit = limit;
     if (p->socket >= 0)
-        fdref_limit(p->socket, fdref_milliseconds(seconds));
+        fdref_limit(p->socket, limit);
+}
+
+void fdref_answer_within(struct fdref *p, unsigned seconds) { fdref_limit_waits(p, fdref_milliseconds(seconds)); }
+
+/* What a recv, send or connect that failed came to: 0 where it was interrupted, and what is left of its wait is then
+   the limit of the next one; ETIMEDOUT where nothing is left; or ECONNRESET. */
+static int fdref_fault(int socket, int error, int64_t until)
+{
+    if (error == EAGAIN || error == EWOULDBLOCK)
+        return ETIMEDOUT;
+    if (error != EINTR)
+        return ECONNRESET;
+    if (until == INT64_MAX)
+        return 0;
+    fdref_limit(socket, fdref_left(until));
+    return fdref_now() < until ? 0 : ETIMEDOUT;
+}
+
+/* Sends or receives some bytes, of so many: more than 0, or 0 and what it came to. */
+static size_t fdref_move_some(const struct fdref *p, unsigned char *at, size_t size, int is_received, int *fault)
+{
+    int64_t until = fdref_until(p->limit);
+    int tries = 0;
+    ssize_t moved;
+    *fault = 0;
+    do {
+        moved = is_received ? recv(p->socket, at, size, 0) : send(p->socket, at, size, FDREF_NO_SIGNAL);
+        if (moved <= 0)
+            *fault = moved == 0 ? ECONNRESET : fdref_fault(p->socket, errno, until);
+        tries++;
+    } while (moved < 0 && *fault == 0);
+    if (tries > 1 && p->limit > 0)
+        fdref_limit(p->socket, p->limit);
+    return moved > 0 ? (size_t)moved : 0;
 }
 
 /* Sends or receives so many bytes: 0, ETIMEDOUT where the limit has passed, or ECONNRESET where the connection is
    lost. */
 static int fdref_move(const struct fdref *p, unsigned char *at, size_t size, int is_received)
 {
-    while (size > 0) {
-        ssize_t moved = is_received ? recv(p->socket, at, size, 0) : send(p->socket, at, size, FDREF_NO_SIGNAL);
-        if (moved < 0 && (errno == EAGAIN || errno == EWOULDBLOCK))
-            return ETIMEDOUT;
-        if (moved == 0 || (moved < 0 && errno != EINTR))
-            return ECONNRESET;
-        at += moved > 0 ? moved : 0;
-        size -= moved > 0 ? (size_t)moved : 0;
+    int fault = 0;
+    while (size > 0 && fault == 0) {
+        size_t moved = fdref_move_some(p, at, size, is_received, &fault);
+        at += moved;
+        size -= moved;
     }
-    return 0;
+    return fault;
 }
 
 /* What the last outcome gives; where it is no reply of the call, the connection is given up. */
@@ -844,9 +911,8 @@ static int64_t fdref_exchange(struct fdref *p, const struct fdref_payload *reque
     return fault == 0 ? fdref_hear(p) : fdref_lose(p, fault);
 }
 
-/* Connects, or gives -1. A server is waited for so many milliseconds, and what is left of so many more is the limit of
-   what is received and sent. */
-static int fdref_connect(const char *path, unsigned start, unsigned answer)
+/* Connects, or gives -1. A server is waited for until the first time, and room in its queue until the second one. */
+static int fdref_connect(const char *path, int64_t until_started, int64_t until)
 {
     struct sockaddr_un address;
     size_t size = strlen(path);
@@ -857,7 +923,7 @@ static int fdref_connect(const char *path, unsigned start, unsigned answer)
         return -1;
     }
     memcpy(address.sun_path, path, size);
-    for (unsigned waited = 0;; waited += 10) {
+    for (;;) {
         int error = 1, fd = socket(AF_UNIX, SOCK_STREAM, 0);
         if (fd < 0)
             return -1;
@@ -865,16 +931,16 @@ static int fdref_connect(const char *path, unsigned start, unsigned answer)
 #ifdef SO_NOSIGPIPE
         setsockopt(fd, SOL_SOCKET, SO_NOSIGPIPE, &error, sizeof error);
 #endif
-        fdref_limit(fd, answer > waited ? answer - waited : 1);
+        fdref_limit(fd, fdref_left(until));
         do
             error = connect(fd, (const struct sockaddr *)&address, sizeof address) == 0 ? 0 : errno;
-        while (error == EINTR);
+        while (error == EINTR && fdref_fault(fd, error, until) == 0);
         if (error == 0 || error == EISCONN)
             return fd;
         close(fd);
         /* so many connections wait to be taken that there is no room for one more */
-        errno = error == EAGAIN ? ETIMEDOUT : error;
-        if ((error != ENOENT && error != ECONNREFUSED) || waited >= start)
+        errno = error == EAGAIN || error == EINTR ? ETIMEDOUT : error;
+        if ((error != ENOENT && error != ECONNREFUSED) || fdref_now() >= until_started)
             return -1;
         poll(NULL, 0, 10);
     }
@@ -884,9 +950,11 @@ static int fdref_connect(const char *path, unsigned start, unsigned answer)
 static struct fdref *fdref_begin(const char *path, unsigned start, unsigned answer, int act, pid_t child)
 {
     struct fdref *p = (struct fdref *)calloc(1, sizeof *p);
-    int64_t number = -1;
-    if (p && (p->socket = fdref_connect(path, fdref_milliseconds(start), fdref_milliseconds(answer))) >= 0) {
+    int64_t until_started = start > 0 ? fdref_until(fdref_milliseconds(start)) : 0;
+    int64_t until = fdref_until(fdref_milliseconds(answer)), number = -1;
+    if (p && (p->socket = fdref_connect(path, until_started, until)) >= 0) {
         struct fdref_payload request = {p->frame + 4, 0, 0, ""};
+        fdref_limit_waits(p, fdref_left(until));
         fdref_put(&request, (uint64_t)act, 1);
         if (act == FDREF_ATTACH)
             fdref_put(&request, (uint64_t)child, 4);
@@ -933,13 +1001,13 @@ int fdref_exit(struct fdref *p)
 {
     int error = errno, fault = p && p->socket < 0 ? ECONNRESET : 0;
     if (p && p->socket >= 0) {
+        int64_t until = fdref_until(p->limit);
         ssize_t some;
         shutdown(p->socket, SHUT_WR);
-        do
+        do {
             some = recv(p->socket, p->frame, sizeof p->frame, 0);
-        while (some > 0 || (some < 0 && errno == EINTR));
-        if (some < 0)
-            fault = errno == EAGAIN || errno == EWOULDBLOCK ? ETIMEDOUT : ECONNRESET;
+            fault = some < 0 ? fdref_fault(p->socket, errno, until) : 0;
+        } while (some > 0 || (some < 0 && fault == 0));
         close(p->socket);
     }
     free(p);

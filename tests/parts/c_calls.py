@@ -10,6 +10,7 @@ import threading
 import time
 from collections.abc import Callable, Iterator, Sequence
 from functools import partial
+from itertools import product
 from pathlib import Path
 
 from parts import crowds, python_client
@@ -506,6 +507,14 @@ def with_a_server_that_stays(build: Build) -> None:
         answering.join(SECONDS)
 
 
+def interrupted(program: str, build: Build, name: str, restarts: int) -> None:
+    """Each limit holds though a timer interrupts all system calls, whether its handler has SA_RESTART or not."""
+    with Server(program, 2, 20) as server:
+        same(b"", build.prints(name, server.path, str(server.process.pid), str(restarts)))
+        # two joins, a pipe, a read that waits, two exits and the closing
+        server.ended(report(2, 7))
+
+
 def served_cases(program: str, builds: Sequence[Build]) -> Iterator[Case]:
     """The client with the server."""
     for build in builds:
@@ -519,6 +528,8 @@ def served_cases(program: str, builds: Sequence[Build]) -> Iterator[Case]:
             yield f"a server without a place, {named(build, odd)}", partial(without_a_place, program, build, odd)
             yield f"answers with a limit, {named(build, odd)}", partial(limited, program, build, odd)
             yield f"each call, {named(build, odd)}", partial(makes_calls, program, build, odd, few_calls())
+    for name, restarts, build in product(("interrupted", "interrupted_coarsely"), (0, 1), (builds[0], builds[-1])):
+        yield f"{name} {restarts}, {build.name}", partial(interrupted, program, build, name, restarts)
     yield "there is a call with each error", every_error_is_met
     yield "each error", partial(makes_calls, program, builds[0], 0, many_calls())
     yield "each error, odd", partial(makes_calls, program, builds[-1], ODD, many_calls())

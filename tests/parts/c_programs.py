@@ -30,6 +30,8 @@ INCLUDES = ["-I", str(C_CLIENT)]
 SOURCES = {
     "api": C_TESTS,
     "driver": C_TESTS,
+    "interrupted": C_TESTS,
+    "interrupted_coarsely": C_TESTS,
     "records": C_TESTS,
     "two_readers": EXAMPLES / "c",
     "trace": EXAMPLES / "c",
