@@ -91,8 +91,8 @@ struct fdref *fdref_attach(const char *path, pid_t child);
 struct fdref *fdref_attach_within(const char *path, pid_t child, unsigned seconds);
 
 /* What to tell where one of these gave NULL, by its errno: "no answer: all sessions are taken, the server can take no
-   further connection, or no fdref listens there" of ETIMEDOUT, "the server ended before it had a place for this
-   process" of ECONNRESET, and of another what strerror has. */
+   further connection, or no fdref listens there" of ETIMEDOUT, "the server ended, or had no memory or no thread for
+   this process" of ECONNRESET, and of another what strerror has. */
 const char *fdref_no_process(int number);
 
 /* Limits how many seconds may pass in which nothing comes of an answer that is waited for, or in which the server takes
@@ -989,7 +989,7 @@ struct fdref *fdref_attach_within(const char *path, pid_t child, unsigned second
 const char *fdref_no_process(int number)
 {
     if (number == ECONNRESET)
-        return "the server ended before it had a place for this process";
+        return "the server ended, or had no memory or no thread for this process";
     if (number == ETIMEDOUT)
         return "no answer: all sessions are taken, the server can take no further connection, or no fdref listens "
                "there";

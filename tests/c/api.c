@@ -66,7 +66,7 @@ static void names(void)
     CHECK(strcmp(fdref_error_name(EDQUOT), "RunFull") == 0 && strcmp(fdref_error_name(ESTALE), "Foreign") == 0);
     CHECK(strcmp(fdref_no_process(ETIMEDOUT), "no answer: all sessions are taken, the server can take no further connection, "
                                               "or no fdref listens there") == 0);
-    CHECK(strcmp(fdref_no_process(ECONNRESET), "the server ended before it had a place for this process") == 0);
+    CHECK(strcmp(fdref_no_process(ECONNRESET), "the server ended, or had no memory or no thread for this process") == 0);
     CHECK(strcmp(fdref_no_process(ENOENT), strerror(ENOENT)) == 0);
     CHECK(fdref_error_name(0) == NULL && fdref_error_name(EINPROGRESS) == NULL && fdref_error_name(ECONNRESET) == NULL);
 }
