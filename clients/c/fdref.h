@@ -23,8 +23,9 @@
      FDREF_LOST      ECONNRESET: the connection is lost. EPROTO: what came is no answer, and the connection was given
                      up. ETIMEDOUT: no answer came within the limit of fdref_answer_within, and it was given up. The
                      process has ended then, and each later call gives ENOTCONN.
-     another         The run could not record the call; the process may go on. FDREF_NO_MEMORY is ENOMEM, FDREF_RUN_FULL
-                     EDQUOT, FDREF_WAITING EBUSY, FDREF_NOT_HERE ECHILD, and FDREF_FOREIGN ESTALE.
+     another         The run could not record the call. FDREF_NO_MEMORY is ENOMEM, FDREF_RUN_FULL EDQUOT, FDREF_WAITING
+                     EBUSY, FDREF_NOT_HERE ECHILD, and FDREF_FOREIGN ESTALE. The process may go on, but not after
+                     FDREF_RUN_FULL of a call that waits: the server ends the process then.
 
    A recorded error is never one of the numbers in the last two rows: EPIPE is that of a pipe.
 
@@ -105,7 +106,9 @@ void fdref_answer_within(struct fdref *p, unsigned seconds);
    connection was lost. It does not change errno. */
 int fdref_exit(struct fdref *p);
 
-/* Frees a process in a child made by fork; the connection stays its parent's. It does not change errno. */
+/* Frees a process in a child made by fork; the connection stays its parent's. A child that does not do this keeps the
+   connection open, so the server does not see the parent end without fdref_exit, and a read of a pipe to which the
+   process could write waits on. It does not change errno. */
 void fdref_forget(struct fdref *p);
 
 pid_t fdref_getpid(const struct fdref *p);
