@@ -1137,7 +1137,7 @@ pid_t fdref_fork(struct fdref *p) { return fdref_ask_int(p, fdref_act_fork()); }
 struct fdref_trace {
     int file, fault;
     uint64_t records;
-    char told[80];
+    char told[120];
     size_t size;
     unsigned char frames[131072];
 };
@@ -1235,12 +1235,15 @@ int fdref_record(struct fdref_trace *trace, int64_t process, struct fdref_act ac
     if (trace->fault != 0)
         return fdref_trace_result(trace->fault);
     struct fdref_payload record = {trace->frames + trace->size + 4, 0, 0, "a process"};
+    char result[64] = "an outcome";
+    if (outcome.kind == FDREF_ERROR && fdref_error_byte(outcome.error) == 0)
+        snprintf(result, sizeof result, "the error %d (%.36s)", outcome.error, strerror(outcome.error));
     fdref_need(&record, process >= 0 && process <= FDREF_HOUSE, EINVAL);
     fdref_need(&record, process == FDREF_HOUSE || act.kind != FDREF_CLOSE_RUN, EINVAL);
     fdref_put(&record, (uint64_t)process, 4);
     fdref_put_next(&record, "an act");
     fdref_put_act(&record, &act);
-    fdref_put_next(&record, "an outcome");
+    fdref_put_next(&record, result);
     fdref_put_outcome(&record, &outcome);
     trace->fault = record.fault;
     if (record.fault == 0)

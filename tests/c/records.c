@@ -114,7 +114,7 @@ static void refuses(const char *path, int64_t process, struct fdref_act act, str
                     const char *what)
 {
     struct fdref_trace *to = fdref_trace_open(path);
-    char head[60], told[80];
+    char head[60], told[120];
     FILE *file;
     CHECK(to != NULL);
     CHECK(fdref_record(to, 0, fdref_act_join(), fdref_number(0)) == 0 && fdref_trace_fault(to) == NULL);
@@ -161,7 +161,7 @@ static void limited(const char *path)
 
 static void faults(const char *path)
 {
-    char name[FDREF_NAME_MOST + 2];
+    char name[FDREF_NAME_MOST + 2], what[60];
     struct fdref_act act = fdref_act_fork();
     struct fdref_outcome outcome = fdref_done();
     struct fdref_trace *to;
@@ -185,8 +185,10 @@ static void faults(const char *path)
     refuses(path, 0, fdref_act_pipe(), fdref_descriptors(-1, 0), EINVAL, "an outcome");
     refuses(path, 0, fdref_act_pipe(), fdref_descriptors(0, -1), EINVAL, "an outcome");
     refuses(path, 0, fdref_act_fstat(0), fdref_told(3, 0, 0), EINVAL, "an outcome");
-    refuses(path, 0, fdref_act_fork(), failed(EPERM), EINVAL, "an outcome");
-    refuses(path, 0, fdref_act_fork(), fdref_error(0), EINVAL, "an outcome");
+    snprintf(what, sizeof what, "the error %d (%s)", EPERM, strerror(EPERM));
+    refuses(path, 0, fdref_act_fork(), failed(EPERM), EINVAL, what);
+    snprintf(what, sizeof what, "the error 0 (%s)", strerror(0));
+    refuses(path, 0, fdref_act_fork(), fdref_error(0), EINVAL, what);
     if (sizeof(size_t) > 4)
         refuses(path, 0, fdref_act_read(0, (size_t)UINT32_MAX + 1), fdref_done(), EINVAL, "a count");
     for (act.kind = -1; act.kind <= FDREF_RENAME + 1; act.kind++)
