@@ -90,9 +90,9 @@ def traced(server: Server) -> list[str]:
 
 
 def until_traced(server: Server, count: int) -> list[str]:
-    """The same, once there are so many."""
-    until = time.monotonic() + SECONDS
-    while (given := frames_in(Path(server.trace).read_bytes())) < count:
+    """The same, once there are so many; a server that only starts has no trace yet."""
+    until, trace = time.monotonic() + SECONDS, Path(server.trace)
+    while (given := frames_in(trace.read_bytes()) if trace.exists() else 0) < count:
         require(time.monotonic() < until, f"in {SECONDS} seconds {given} records were traced, {count} are wanted")
         time.sleep(0.002)
     return traced(server)
