@@ -72,6 +72,7 @@
      - st_ino is a number that the file has got by its first name, which goes with it to others. It is the same in all
        processes that come of one by fork and exec; a program of system has its own. Modes are 0644, times 0.
      - F_DUPFD is a dup2 to the lowest free descriptor from its argument on.
+     - lseek by a whence that there is not is one to the offset -9223372036854775808. Of a pipe it is EINVAL unasked.
      - F_GETFL has O_LARGEFILE, too, where the kernel would tell it. F_SETFL asks with the flags that fdref knows.
      - pipe2 with O_NONBLOCK is a pipe, and a setfl of each end. ioctl with FIONBIO is a getfl and a setfl.
      - EPIPE raises SIGPIPE.
@@ -872,26 +873,42 @@ int dprintf(int fd, const char *format, ...)
 
 /* ---- the offset and the length */
 
+static int is_base(int whence) { return whence == SEEK_SET || whence == SEEK_CUR || whence == SEEK_END; }
+static int is_whence(int whence) { return is_base(whence) || whence == SEEK_DATA || whence == SEEK_HOLE; }
+
+/* No other whence may be. It is asked as an offset below 0 is, which is refused likewise: EBADF, EINVAL. Of a pipe that
+   is ESPIPE, where EINVAL may be as well, which Linux gives: no line tells it. */
 static int is_sought(struct going *it, int fd, int64_t offset, int whence, size_t width)
 {
-    int is_base = whence == SEEK_SET || whence == SEEK_CUR || whence == SEEK_END;
-    it->act = fdref_act_lseek(fd, offset, whence);
+    it->act = is_whence(whence) ? fdref_act_lseek(fd, offset, whence) : fdref_act_lseek(fd, INT64_MIN, SEEK_SET);
     it->way = way_of(fd);
-    if (it->way == NOTE && !is_base)
+    if (it->way == NOTE && !is_base(whence) && (is_whence(whence) || (slot_of(fd).held == OURS && is_pipe_at(fd))))
         it->way = PASS;
     if (it->way != ASK)
         return 0;
-    if (!is_base)
+    if (is_whence(whence) && !is_base(whence))
         leave_out_at("lseek by SEEK_DATA and its kin", fd);
-    it->done = ALONE(ask_most(it->act, NULL, INT64_MAX));
+    if (is_whence(whence) || slot_of(fd).held != OURS || !is_pipe_at(fd))
+        it->done = ALONE(ask_most(it->act, NULL, INT64_MAX));
+    else
+        it->done = fails(EINVAL);
     if (width < sizeof it->done && it->done > INT32_MAX)
         it->done = fails(EOVERFLOW);
     return 1;
 }
 
+/* That a native seek in a pipe by such a whence has not failed is noted, since no line tells it. */
+static int64_t has_sought(const struct going *it, int fd, int whence, int64_t given)
+{
+    if (it->way == PASS && given >= 0 && !is_behind && !is_whence(whence) && slot_of(fd).held == OURS)
+        note_wrong("lseek", "has taken a whence that there is not");
+    return gone(it, given);
+}
+
+#define SOUGHT(it, given) has_sought(it, fd, whence, given)
 #define SEEKS(type, name) \
     GOES(type, name, (int fd, type offset, int whence), (fd, offset, whence), \
-         is_sought(&going, fd, offset, whence, sizeof(type)), gone)
+         is_sought(&going, fd, offset, whence, sizeof(type)), SOUGHT)
 SEEKS(off_t, lseek)
 
 static int is_cut(struct going *it, int fd, int64_t length)

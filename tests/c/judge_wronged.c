@@ -279,6 +279,18 @@ static void copy_to(void)
     read(ends[0], bytes, 1);
 }
 
+/* No system has these ways to count an offset. */
+static void seek_astray(void)
+{
+    int fd = open("a", O_RDWR | O_CREAT, 0600);
+    write(fd, "xyz", 3);
+    lseek(fd, 1, 77);
+    lseek(fd, 1, -1);
+    lseek(20, 1, 77);
+    lseek(ends[0], 1, 77);
+    lseek(fd, -1, SEEK_END);
+}
+
 int main(int count, char **words)
 {
     static const struct {
@@ -298,6 +310,8 @@ int main(int count, char **words)
         {"wait-status", await},         {"wait-early", await},
         {"wait-none", await},           {"exec-cut", run_again},
         {"end", end},                   {"dup3-same", copy_same},
+        {"whence-taken", seek_astray},  {"whence-piped", seek_astray},
+        {"end-lost", seek_astray},
         {"access-refused", ask},        {"read-beyond", take_few},
         {"cloexec-thread", keep_flags_after_thread},
         {"restart-lost", restart},      {"never-beside", read_beside},

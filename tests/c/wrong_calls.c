@@ -31,7 +31,10 @@
    restart-lost    sigaction sets no SA_RESTART
    never-beside    a read never comes back
    end-hangs       a read of a pipe never comes back at its end
-   read-crashes    a read ends the process by SIGSEGV */
+   read-crashes    a read ends the process by SIGSEGV
+   whence-taken    lseek takes any whence for SEEK_SET
+   whence-piped    lseek in a pipe gives 0 for a whence that there is not
+   end-lost        lseek takes SEEK_END for SEEK_SET */
 
 #define _GNU_SOURCE
 
@@ -193,6 +196,16 @@ int execl(const char *path, const char *word, ...)
         list[++at] = va_arg(values, char *);
     va_end(values);
     return execvp(path, list);
+}
+
+off_t lseek(int fd, off_t offset, int whence)
+{
+    int is_other = whence < SEEK_SET || whence > SEEK_HOLE;
+    if ((is_other && is_wrong("whence-taken")) || (whence == SEEK_END && is_wrong("end-lost")))
+        whence = SEEK_SET;
+    if (is_other && is_wrong("whence-piped") && syscall(SYS_lseek, fd, 0L, SEEK_CUR) < 0 && errno == ESPIPE)
+        return 0;
+    return (off_t)syscall(SYS_lseek, fd, (long)offset, whence);
 }
 
 int close(int fd) { return is_wrong("close-kept") ? 0 : (int)syscall(SYS_close, fd); }

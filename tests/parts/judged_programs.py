@@ -694,6 +694,10 @@ WRONGED = {
     "end-hangs": f"{DIFFERS}p0 read 3 1 has not come back on the system, which was killed in it",
     "read-crashes": f"{DIFFERS}p0 read 3 2 has not come back on the system, where signal 11 (SIGSEGV) ended it",
     "cloexec-thread": "1 answer about FD_CLOEXEC differs from what was set: system: p0 fcntl F_GETFD 3 = 0",
+    # a whence that there is not is told as an offset below 0
+    "whence-taken": "system: p0 lseek 5 -9223372036854775808 set = 1",
+    "whence-piped": f"{OF_SYSTEM}p0 lseek: has taken a whence that there is not",
+    "end-lost": "system: p0 lseek 5 -1 end = error EINVAL",
 }
 
 
