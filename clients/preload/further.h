@@ -42,7 +42,7 @@ static int is_renamed_with(struct going *it, int folder, const char *name, int n
         passes("path", "renameat2", name);
         return 0;
     }
-    leave_out("call", "renameat2 with flags", NULL);
+    leave_out("call", "renameat2 with flags", name);
     it->done = fails(ENOSYS);
     return 1;
 }
