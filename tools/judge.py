@@ -553,6 +553,9 @@ class Verdict:
         self.order = self.ordered(program) if program else None
         self.causes = self.causes_in(folder)
         self.bare = self.compared.without_cause(self.has_cause) if self.unexplained else []
+        bare = (self.findings[at] for at in self.bare)
+        if self.is_open() and any(some_order.is_in_none(self.compared, it) for it in bare):
+            self.order = some_order.none_for(self.compared)
 
     def ordered(self, program: list[str]) -> some_order.Ordered | None:
         """Whether some order of the calls of several processes explains the answers of the system."""

@@ -548,6 +548,12 @@ class Compared:
         backwards = frozenset(are_backwards(self.system))
         return Story(self.records, self.limits, self.handlers, self.turns, self.room, backwards, self.is_one())
 
+    def description_of(self, parting: Parting) -> plain_model.Description | None:
+        """What the descriptor of a call that parts leads to with fdref, if it is open."""
+        process = self.story().world_before(parting.place).processes.get(parting.number)
+        act = act_at(parting)
+        return process.table.get(act.fields[0]) if process and act else None
+
     def is_one(self) -> bool:
         """Whether one thread of one process made all calls; the first thread of a process has no number."""
         return len(self.system.calls) == 1 and all(line.place.partition("@")[0] == "-" for line in self.system_lines)

@@ -20,13 +20,13 @@ from support.auditing import act_of
 from support.call_logs import Log, Way, call_of, is_wait, word_of
 from support.histories import UNKNOWN, Noted
 from support.ordering import ROOMY
-from support.plain_model import TRANSFER_MAX, Limits
+from support.plain_model import PIPE_BUF, TRANSFER_MAX, Limits
 from support.replaying import verified
 from support.runs import Line
 from support.searching import Search, Step, TooLong
 from support.texts import several
 
-from partings import OF_TIME, Compared, Finding, is_by_signal
+from partings import OF_TIME, Compared, Finding, Parting, is_by_signal, size_of
 from thread_order import ThreadSearch
 
 # A search is given up after so many states, or after fewer, where these have many bytes; and after so long.
@@ -444,3 +444,59 @@ def found_for(compared: Compared, program: list[str], doubt: str, seconds: float
 def none_in(builder: Builder) -> Ordered:
     """That no order gives all answers. No order at all gives an EINTR, which is by a signal or wrong."""
     return Ordered(False, f"no {(OTHERS if builder.unknown else AN_ORDER).removeprefix('an ')}")
+
+
+# ---- what no order gives
+
+
+def is_in_none(compared: Compared, finding: Finding) -> bool:
+    """Whether no order gives an answer of the system, whoever was killed or had less room: as it came before there was
+    another process, or is a part of a write that came back without a cause. Nothing else may be why of it."""
+    parting = finding.parting
+    if not parting.is_same_call() or not parting.system:
+        return False
+    return is_alone(compared, parting.way, parting.system) or is_cut_for_nothing(compared, parting)
+
+
+def is_alone(compared: Compared, way: Way, line: Line) -> bool:
+    """Whether a call of a native run came before the first fork, in a run of one thread that starts no other program."""
+    calls = compared.system.calls[way]
+    before = calls[: 1 + next(at for at, it in enumerate(calls) if it is line)]
+    is_first = way == min(compared.system.calls) and not compared.started.calls
+    return is_first and not Builder(compared).has_threads() and not any(map(is_fork, before))
+
+
+def is_cut_for_nothing(compared: Compared, parting: Parting) -> bool:
+    """Whether a native write to a pipe moved a part, and had to move all: it goes in at once, or it waits for room, while
+    there is a reader and no signal comes. Where one stops its process Linux ends a write that waits after whole pages,
+    counted from its beginning or its end."""
+    line, at = parting.system, compared.description_of(parting)
+    if not line or not at or not at.pipe or word_of(line) != "write" or not line.outcome.isdigit():
+        return False
+    if Builder(compared).has_threads():
+        return False
+    moved, count = int(line.outcome), size_of(line.act.split(" ")[-1])
+    calls = compared.system.calls[parting.way]
+    place = next(place for place, it in enumerate(calls) if it is line)
+    if not 0 < moved < count:
+        return False
+    if count <= PIPE_BUF and not is_piece(calls[max(place - 1, 0) : place + 1]):
+        return True
+    is_stopped = moved % PAGE == 0 or (count - moved) % PAGE == 0 or count == TRANSFER_MAX
+    is_waiting = not at.nonblock and not compared.turns.turns and not compared.is_cut(line)
+    return is_waiting and not is_stopped and is_read_later(compared, line)
+
+
+def is_read_later(compared: Compared, line: Line) -> bool:
+    """Whether the pipe that a native write was to has a reader that reads once that has come back, so that it was there
+    before. A FIFO may have another one then."""
+    places = {id(it): place for place, it in enumerate(compared.noted_lines)}
+    uses = [(pipe, it) for pipe, (_, it) in pipe_calls(compared.system, min(compared.system.calls), {}) if pipe]
+    own = {pipe for pipe, it in uses if it is line}
+    later = (it for pipe, it in uses if pipe in own and places[id(it)] > places[id(line)])
+    return any(given_by(it) is not None for it in later)
+
+
+def none_for(compared: Compared) -> Ordered:
+    """That no order gives all answers, as one of them tells by itself."""
+    return none_in(Builder(compared))

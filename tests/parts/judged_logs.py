@@ -839,6 +839,44 @@ ORDERS = [
         "- 8 p0 signal 9",
     ),
     Orders(
+        "an answer before the first fork, where a child was killed later",
+        "p0 open a rw,creat = 0; p0 write 0 x6162 = 1; p0 fork = 1",
+        "0 p0 join = 0; 1 p0 open a rw,creat = 0; 2 p0 write 0 x6162 = 2; 3 p0 fork = 1; 4 p1 attach = ok",
+        NO_ORDER,
+        f"a difference: {NO_ORDER}",
+        1,
+        cuts="- 70 p0 signal 9",
+    ),
+    Orders(
+        "an answer after the first fork, which a child that was killed may have changed",
+        "p0 open a rw,creat = 0; p0 fork = 1; p0 lseek 0 0 end = 1",
+        "0 p0 join = 0; 1 p0 open a rw,creat = 0; 2 p0 fork = 1; 3 p1 attach = ok; 4 p0 lseek 0 0 end = 0",
+        f"{OPEN_ORDER}none was found, but a process that was killed may be why",
+        f"not judged: 1 answer differs without a reason; {NOT_DECIDED}",
+        3,
+        cuts="- 70 p0 signal 9",
+    ),
+    Orders(
+        "an answer before the first fork, by what went past fdref, where a child was killed later",
+        "p0 open a rw,creat = 0; p0 lseek 0 0 end = 1; p0 fork = 1",
+        "0 p0 join = 0; 1 p0 open a rw,creat = 0; 2 p0 lseek 0 0 end = 0; 3 p0 fork = 1; 4 p1 attach = ok",
+        f"{OPEN_ORDER}none was found, but a process that was killed may be why",
+        "not judged: 1 answer differs without a reason, perhaps by posix_fallocate on descriptor 0, which went past "
+        f"fdref; {NOT_DECIDED}",
+        3,
+        "! 1 p0 call posix_fallocate\t0",
+        "- 70 p0 signal 9",
+    ),
+    Orders(
+        "a small write that moves a part, where a child was killed",
+        "p0 pipe = 0 1; p0 fork = 1; p0 write 1 x6162 = 1",
+        A_PIPE + "4 p0 write 1 x6162 = 2",
+        NO_ORDER,
+        f"a difference: {NO_ORDER}",
+        1,
+        cuts="- 70 p0 signal 9",
+    ),
+    Orders(
         "rights that fdref has not",
         TWO + "p1 open l w,creat,excl = 2; p2 open l w = error EACCES",
         TWO_HERE + "6 p1 open l w,creat,excl = 2; 7 p2 open l w = 2",
@@ -1248,6 +1286,38 @@ def is_of_room(
     same(status == 3 and room is not None and room != capacity, is_told)
 
 
+READS_LATER = "p1 read 0 65536 = 61*65536; p1 read 0 65536 = 61*{}"
+# The last piece of a write, what of it the system moved, what it has done before and after, what was noted of it, and
+# whether no order gives that.
+LAST_PIECES = [
+    (4464, 4463, "", READS_LATER.format(4463), "", True),
+    (4464, 4463, READS_LATER.format(4463), "", "", False),
+    (4464, 4463, "", f"{READS_LATER.format(4463)}; p1 setfl 1 w,nonblock = ok", "", False),
+    (4464, 4463, "", READS_LATER.format(4463), "- 0 p0 handler 14\tends", False),
+    (4464, 4096, "", READS_LATER.format(4096), "", False),
+    (4464, 368, "", READS_LATER.format(368), "", False),
+    (65536, 65535, "", READS_LATER.format(65535), "", False),
+    (100, 99, READS_LATER.format(99), "", "", False),
+    (100, 99, "", READS_LATER.format(99), "", True),
+    (4464, 0, "", READS_LATER.format(1), "", False),
+]
+
+
+def is_in_no_order(size: int, moved: int, before: str, after: str, noted: str, is_told: bool) -> None:
+    """A part of a write that waits is in no order where a reader is there later, and nothing may have ended it."""
+    whole = "p0 write 1 61*65536 = 65536"
+    system = [*lines_of(f"p0 pipe = 0 1; p0 fork = 1; {whole}; {before}"), f"p0 write 1 61*{size} = {moved}"]
+    first, last = lines_of(READS_LATER.format(size))
+    calls = ["p0 pipe = 0 1", "p0 fork = 1", "p1 attach = ok", whole, first, f"p0 write 1 61*{size} = {size}", last]
+    calls += ["p1 setfl 1 w,nonblock = ok"] if "setfl" in after else []
+    trace = lines_of(one_after_another(["p0 join = 0", *calls]))
+    frames = trace_of(trace, header_bytes(limits=Limits(capacity=65_536)))
+    logs = as_bytes([f"- {line}" for line in [*system, *lines_of(after)]]), as_bytes(logged(trace))
+    verdict = judge.Verdict(judge.Both(WELL, WELL, *logs, frames, system_past=as_bytes(lines_of(noted))), "legal 9 rest 0")
+    finding = next(it for it in verdict.findings if it.parting.number == 0)
+    same(is_told, some_order.is_in_none(verdict.compared, finding))
+
+
 MORE_CALLS = "p0 fork = 1; p1 close 7 = error EBADF"
 MORE_HERE = "0 p0 join = 0; 1 p0 fork = 1; 2 p1 attach = ok; 3 p1 close 7 = error EBADF; 4 p1 close 8 = error EBADF"
 OTHER_CALL = "p0 close 7 = error EBADF; p0 close 8 = error EBADF"
@@ -1493,6 +1563,8 @@ def cases() -> Iterator[Case]:
         yield f"another way: {ways}", partial(goes_another_way, *ways)
     for rooms in ROOMS:
         yield f"room of a pipe: {rooms}", partial(is_of_room, *rooms)
+    for piece in LAST_PIECES:
+        yield f"the last piece of a write: {piece}", partial(is_in_no_order, *piece)
     yield "a circle of forks", is_circular
     yield "a log that is torn", is_torn
     yield "looks at names", tells_looks
