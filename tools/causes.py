@@ -166,6 +166,14 @@ def tells_variables(line: Line | None) -> bool:
     return act is not None and any(isinstance(field, bytes) and VARIABLE in field for field in act.fields)
 
 
+def ends_early(parting: Parting, things: frozenset[object]) -> bool:
+    """Whether a read of a pipe is told the end of it, where with fdref there were bytes: none too many were written."""
+    system, fdref = parting.system, parting.fdref
+    is_end = system is not None and fdref is not None and system.outcome == "x" and word_of(system) == "read"
+    is_given = is_end and fdref is not None and bool(plain_model.read_data(fdref.outcome.encode()))
+    return is_given and any(isinstance(it, plain_model.Pipe) for it in things)
+
+
 def answered(parting: Parting, records: Sequence[Line]) -> int:
     """The place in the trace at which fdref answered, or where its process exited while it waited, or the end."""
     line = parting.fdref
@@ -271,6 +279,8 @@ class Causes:
         before = [it for it in self.every if it.place < place or it.kind == past.THREAD]
         known = [it for it in before if self.extents[id(it)] == ITS_OWN]
         near = [it for it in known if it.names & finding.names or it.things & things]
+        if ends_early(parting, things):
+            near, known = ([it for it in some if not past.is_of_output(it)] for some in (near, known))
         found = near or (known if id(parting) in self.reached else [])
         found += [it for it in before if self.extents[id(it)] == ALL and self.can_be(it, parting)]
         found += [it for it in before if is_limit_of_numbers(it) and refuses_number(parting)]

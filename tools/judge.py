@@ -567,9 +567,15 @@ class Verdict:
         is_refused = any(line.outcome in causes.OF_RIGHTS for line in self.compared.system_lines)
         if not doubt and is_refused and past.may_be_refused(self.past, self.is_superuser):
             doubt = causes.MODES
+        of_end = "" if not is_killed and self.has_only_written() else doubt
         # there are two, one of which is of larger pipes
         with waits.Waiting("an order of the calls that gives all answers of the system", 2 * self.search):
-            return some_order.ordered_of(self.compared, program, doubt, self.search)
+            return some_order.ordered_of(self.compared, program, doubt, of_end, self.search)
+
+    def has_only_written(self) -> bool:
+        """Whether all that may have changed what fdref does not see has written more, and nothing has read."""
+        is_seen = not past.made(self.native) and not past.cuts(self.native)
+        return is_seen and all(map(past.is_of_output, past.likely(self.past)))
 
     def causes_in(self, folder: str) -> causes.Causes:
         """What may be why the two part in a folder, beside the calls."""

@@ -220,10 +220,20 @@ def told_looks(every: list[Past], records: list[Line]) -> list[str]:
     return [told] if has_looked(every, records) else []
 
 
+def likely(every: list[Past]) -> list[Past]:
+    """What may have changed what fdref does not see."""
+    return [it for it in every if it.kind not in UNDOUBTED and not LOOKS.fullmatch(it.call)]
+
+
 def doubt(every: list[Past]) -> str:
     """The first thing that may have changed what fdref does not see, or nothing."""
-    likely = [it for it in every if it.kind not in UNDOUBTED and not LOOKS.fullmatch(it.call)]
-    return f"{likely[0].said(' of ')}, which went past fdref," if likely else ""
+    found = likely(every)
+    return f"{found[0].said(' of ')}, which went past fdref," if found else ""
+
+
+def is_of_output(one: Past) -> bool:
+    """Whether it is stdio on a file of fdref at an output: natively it may have written there, and has read nothing."""
+    return one.kind == STDIO and one.call in ("1", "2")
 
 
 def made(every: list[Past]) -> list[Past]:

@@ -12,7 +12,7 @@ calls that have a reason to differ. A call that a signal ended has done nothing,
 
 import bisect
 import itertools
-from collections.abc import Iterator, Mapping, Sequence
+from collections.abc import Callable, Iterator, Mapping, Sequence
 from typing import NamedTuple
 
 from support import plain_model
@@ -309,25 +309,33 @@ def pipe_calls(log: Log, way: Way, ends: Mapping[str, int]) -> Iterator[tuple[in
             known.pop(fields[0], None)
 
 
-def has_lost(log: Log) -> bool:
+def has_lost(log: Log, is_lost: Callable[[Sequence[Use]], bool]) -> bool:
     """Whether a pipe of a system has lost bytes, as no order explains, however large it is."""
     uses: dict[int, list[Use]] = {}
     for pipe, use in pipe_calls(log, min(log.calls), {}):
         uses.setdefault(pipe, []).append(use)
-    return any(map(is_lossy, uses.values()))
+    return any(map(is_lost, uses.values()))
+
+
+def has_one_reader(uses: Sequence[Use]) -> bool:
+    """Whether one process alone reads a pipe, and did so to the end."""
+    reads = {way for way, line in uses if given_by(line) is not None}
+    return len(reads) == 1 and all(word_of(line) != "write" or line.outcome != "error EPIPE" for _, line in uses)
+
+
+def is_cut_off(uses: Sequence[Use]) -> bool:
+    """Whether the process that alone reads a pipe is told the end of it before it has got as much as was written."""
+    reads = [given for _, line in uses if (given := given_by(line)) is not None]
+    put = sum(len(written_by(line)) for _, line in uses if word_of(line) == "write")
+    return has_one_reader(uses) and not all(reads) and sum(map(len, reads)) < put
 
 
 def is_lossy(uses: Sequence[Use]) -> bool:
-    """Whether the process that alone reads a pipe has not got the first bytes that its only writer has written, or is
-    told the end of it before it has got all that anyone has."""
-    reads = [(way, given) for way, line in uses if (given := given_by(line)) is not None]
-    writes = [(way, line) for way, line in uses if word_of(line) == "write"]
-    if len({way for way, _ in reads}) != 1 or any(line.outcome == "error EPIPE" for _, line in writes):
-        return False
-    got, is_over = b"".join(given for _, given in reads), any(not given for _, given in reads)
-    put = b"".join(written_by(line) for _, line in writes)
-    is_one = len({way for way, _ in writes}) == 1
-    return (is_over and len(got) < len(put)) or (is_one and put[: len(got)] != got[: len(put)])
+    """The same, or whether it has not got the first bytes that the only writer has written."""
+    got = b"".join(given_by(line) or b"" for _, line in uses)
+    put = b"".join(written_by(line) for _, line in uses if word_of(line) == "write")
+    is_one = has_one_reader(uses) and len({way for way, line in uses if word_of(line) == "write"}) == 1
+    return is_cut_off(uses) or (is_one and put[: len(got)] != got[: len(put)])
 
 
 def given_by(line: Line) -> bytes | None:
@@ -401,23 +409,26 @@ def is_open_to(finding: Finding) -> bool:
     return bool(finding.reason) and is_other and not finding.is_settled
 
 
-def ordered_of(compared: Compared, program: list[str], doubt: str, seconds: float = SECONDS) -> Ordered | None:
+def ordered_of(
+    compared: Compared, program: list[str], doubt: str, of_end: str, seconds: float = SECONDS
+) -> Ordered | None:
     """Whether some order explains the answers of the system, as far as so long a search tells: None where there is
     nothing to search for. A doubt is why there may be none though the system is right: something was done that has no
-    line."""
+    line; one of an end is why a pipe may have had fewer bytes than were written."""
     has_threads = Builder(compared).has_threads()
     if not compared.findings or (len(compared.system.calls) < 2 and not has_threads):
         return None
     try:
-        return found_for(compared, program, doubt, seconds)
+        return found_for(compared, program, doubt, of_end, seconds)
     except Open as why:
         return Ordered(None, str(why))
 
 
-def found_for(compared: Compared, program: list[str], doubt: str, seconds: float) -> Ordered:
+def found_for(compared: Compared, program: list[str], doubt: str, of_end: str, seconds: float) -> Ordered:
     """The same, where it can be asked."""
     builder, roomy = Builder(compared), Builder(compared, True)
-    if not doubt and not builder.has_threads() and has_lost(compared.system):
+    is_sure = not (of_end or builder.has_threads())
+    if is_sure and has_lost(compared.system, is_cut_off if doubt else is_lossy):
         return none_in(builder)
     if any(line.outcome == "error EINTR" and not compared.is_ended(line) for line in compared.system_lines):
         return none_in(builder)

@@ -687,6 +687,13 @@ READS_BESIDE = (
     "-@105 p2 close 1 = ok; -@127 p0 wait = 1;"
 )
 
+PRINTS = "p0 pipe = 0 1; p0 fork = 1; p0 close 1 = ok; p1 dup2 1 2 = 2; p1 write 2 x6869 = 2; "
+PRINTED = f"{OPEN_ORDER}none was found, but stdio on descriptor {{}}, which went past fdref, may be why"
+NOT_PRINTED = (
+    "not judged: 1 answer differs without a reason, perhaps by stdio on descriptor {}, which went past fdref; "
+    f"{NOT_DECIDED}"
+)
+
 ORDERS = [
     Orders(
         "two processes and a name that one of them makes",
@@ -876,6 +883,22 @@ ORDERS = [
         1,
         cuts="- 70 p0 signal 9",
     ),
+    *[
+        Orders(
+            f"stdio on what may be a pipe, of which the reader gets {given}",
+            f"{PRINTS}p0 read 0 9 = {given}",
+            f"{A_PIPE}4 p0 close 1 = ok; 5 p1 dup2 1 2 = 2; 6 p1 write 2 x6869 = 2; 7 p1 exit = ok; 8 p0 read 0 9 = x6869",
+            order,
+            verdict,
+            status,
+            f"- 5 p{number} stdio {descriptor}",
+        )
+        for given, number, descriptor, order, verdict, status in (
+            ("x", 1, 2, NO_ORDER, f"a difference: {NO_ORDER}", 1),
+            ("x", 0, 0, PRINTED.format(0), NOT_PRINTED.format(0), 3),
+            ("x696968", 1, 2, PRINTED.format(2), NOT_PRINTED.format(2), 3),
+        )
+    ],
     Orders(
         "rights that fdref has not",
         TWO + "p1 open l w,creat,excl = 2; p2 open l w = error EACCES",
