@@ -1,6 +1,7 @@
 /* Goes another way with fdref, or gets another answer, by what is no answer of fdref.
 
-   usage: judge_otherwise sends|unnamed|limits|makes|advises|times|resolves|by-number|environment
+   usage: judge_otherwise sends|unnamed|limits|makes|advises|times|resolves|by-number|environment|
+                          renames
 
    sends        sends its file into a pipe by sendfile, and reads the other end
    unnamed      writes by pwritev into its file, whose name is gone, and reads it by another descriptor
@@ -10,7 +11,8 @@
    times        writes for 0.1 seconds, and asks for the offset
    resolves     writes something else where realpath does not find its file
    by-number    prints whether its file can be read by a path of its descriptor
-   environment  writes its environment into its file */
+   environment  writes its environment into its file
+   renames      gives its file, which is at descriptor 1, too, another name by renameat2, and opens it by the first */
 
 #define _GNU_SOURCE
 
@@ -65,6 +67,14 @@ static int makes(void)
     return made < 0 || (found < 0 && unlink("a") != 0);
 }
 
+static int renames(int fd)
+{
+    if (dup2(fd, 1) != 1 || says(1, text))
+        return 1;
+    renameat2(AT_FDCWD, "a", AT_FDCWD, "b", RENAME_NOREPLACE);
+    return open("a", O_RDONLY) == 0;
+}
+
 static double now(void)
 {
     struct timespec time;
@@ -106,7 +116,8 @@ int main(int count, char **words)
 {
     const char *what = count > 1 ? words[1] : "";
     int fd = open("a", O_RDWR | O_CREAT, 0600);
-    if (fd < 0 || (strcmp(what, "sends") == 0 && sends(fd)) || (strcmp(what, "unnamed") == 0 && unnamed(fd)))
+    if (fd < 0 || (strcmp(what, "sends") == 0 && sends(fd)) || (strcmp(what, "unnamed") == 0 && unnamed(fd))
+        || (strcmp(what, "renames") == 0 && renames(fd)))
         return 1;
     if (strcmp(what, "advises") == 0)
         return says(fd, posix_fadvise(fd, 0, 0, POSIX_FADV_SEQUENTIAL) == 0 ? "advised" : "not");

@@ -149,6 +149,7 @@ OTHERWISE: list[tuple[str, tuple[str, ...], str]] = [
     ("advises", ("system: p0 write 3 x61647669736564 = 7",), "posix_fadvise on descriptor 3, which went past fdref"),
     ("times", (f"{OTHER_WAY}{NUMBERS}",), NUMBERS),
     ("resolves", ("system: p0 write 3 x666f756e64 = 5",), "realpath of a, which went past fdref"),
+    ("renames", ("system: p0 open a r = error ENOENT",), "renameat2 with flags of a, which went past fdref"),
     ("environment", (f"{OTHER_WAY}the environment",), "the environment, in which judge.py sets variables of its own"),
 ]
 
