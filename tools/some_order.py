@@ -318,7 +318,7 @@ def has_lost(log: Log, is_lost: Callable[[Sequence[Use]], bool]) -> bool:
 
 
 def has_one_reader(uses: Sequence[Use]) -> bool:
-    """Whether one process alone reads a pipe, and did so to the end."""
+    """Whether one process alone reads a pipe, and was there for all writes."""
     reads = {way for way, line in uses if given_by(line) is not None}
     return len(reads) == 1 and all(word_of(line) != "write" or line.outcome != "error EPIPE" for _, line in uses)
 
@@ -470,7 +470,7 @@ def is_in_none(compared: Compared, finding: Finding) -> bool:
 
 
 def is_alone(compared: Compared, way: Way, line: Line) -> bool:
-    """Whether a call of a native run came before the first fork, in a run of one thread that starts no other program."""
+    """Whether a native call came before the first fork, in a run of one thread that starts no other program."""
     calls = compared.system.calls[way]
     before = calls[: 1 + next(at for at, it in enumerate(calls) if it is line)]
     is_first = way == min(compared.system.calls) and not compared.started.calls
@@ -478,9 +478,9 @@ def is_alone(compared: Compared, way: Way, line: Line) -> bool:
 
 
 def is_cut_for_nothing(compared: Compared, parting: Parting) -> bool:
-    """Whether a native write to a pipe moved a part, and had to move all: it goes in at once, or it waits for room, while
-    there is a reader and no signal comes. Where one stops its process Linux ends a write that waits after whole pages,
-    counted from its beginning or its end."""
+    """Whether a native write to a pipe moved a part, and had to move all: it goes in at once, or it waits for room,
+    while there is a reader and no signal comes. Where one stops its process Linux ends a write that waits after whole
+    pages, counted from its beginning or its end."""
     line, at = parting.system, compared.description_of(parting)
     if not line or not at or not at.pipe or word_of(line) != "write" or not line.outcome.isdigit():
         return False
