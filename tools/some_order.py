@@ -199,8 +199,10 @@ class Builder:
             found += self.asked_aside(number, (start, self.after(line) - 1), at, asides, is_first)
             found += self.calls_of(start, [line])
             start = start if is_piece(system[at : at + 2]) else self.after(line)
-        found += self.asked_aside(number, (start, self.last), len(system), asides, is_first)
-        return [*found, Noted(start, self.gone.get(number), plain_model.Act(number, "exit"), UNKNOWN)]
+        gone = self.gone.get(number)
+        # what comes before the exit was there before that was told, too
+        found += self.asked_aside(number, (start, gone or self.last), len(system), asides, is_first)
+        return [*found, Noted(start, gone, plain_model.Act(number, "exit"), UNKNOWN)]
 
     def calls_of(self, start: int, lines: list[Line]) -> list[Noted]:
         """Calls one after another, which began after a time."""

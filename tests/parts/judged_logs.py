@@ -612,7 +612,7 @@ def are_found(logs: Logs) -> None:
 
 class Orders(NamedTuple):
     """Two logs of several processes: how the line begins that tells whether an order explains the first one, the last
-    line, and the status."""
+    line, and the status. The lines of the second that have these places are in the trace alone."""
 
     name: str
     system: str
@@ -622,6 +622,7 @@ class Orders(NamedTuple):
     status: int
     past: str = ""
     cuts: str = ""
+    asides: tuple[int, ...] = ()
 
 
 AN_ORDER = "an order of these calls gives all answers of the system"
@@ -1002,6 +1003,16 @@ ORDERS = [
         for when, size, is_found in (("before", 127, True), ("after", 145, False))
     ],
     Orders(
+        "what the shim asks aside at the end of a child, before its parent's wait and another fork",
+        one_by_one("p0 pipe = 0 1; p0 fork = 1; p1 fstat 0 = pipe 0 1; p0 wait = 1; p0 fork = 2; p2 close 0 = ok"),
+        A_PIPE + "4 p1 fstat 0 = pipe 0 2; 5 p1 close 0 = ok; 6 p1 exit = ok; 7 p0 fork = 2; 8 p2 attach = ok; "
+        "9 p2 close 0 = ok",
+        OTHERS,
+        f"not judged: 1 answer differs with a reason: {LINKS}; {OTHERS}",
+        3,
+        asides=(5,),
+    ),
+    Orders(
         "one process",
         "p0 pipe = 0 1; p0 setfl 1 r,nonblock = ok; p0 write 1 61*2000 = 2000; p0 read 0 2000 = 61*2000",
         f"{FULL}4 p0 read 0 2000 = 61*1024",
@@ -1015,9 +1026,10 @@ ORDERS = [
 def is_ordered(program: str, orders: Orders) -> None:
     """Just this is said of the order of the calls, and as the last line."""
     trace = lines_of(orders.fdref)
+    fdref = as_bytes(logged([line for at, line in enumerate(trace) if at not in orders.asides]))
     system = as_bytes(native_lines(orders.system))
     noted, cuts = as_bytes(lines_of(orders.past)), as_bytes(lines_of(orders.cuts))
-    both = judge.Both(WELL, WELL, system, as_bytes(logged(trace)), trace_of(trace), noted, system_past=cuts)
+    both = judge.Both(WELL, WELL, system, fdref, trace_of(trace), noted, system_past=cuts)
     verdict = judge.Verdict(both, f"legal {len(trace)} rest 0", program=[program])
     said = judge.told(verdict, 60, 0).splitlines()
     lines = [line for line in said if "order of these calls" in line]

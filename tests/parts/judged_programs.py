@@ -539,6 +539,7 @@ def cases(bench: Bench) -> Iterator[Case]:
     """Each program."""
     for judged in PROGRAMS:
         yield " ".join(["judge_" + judged.name, *judged.words]), partial(is_said, bench, judged)
+    yield "a program that is started beside a pipe, and another one after it", partial(orders_ends, bench)
     yield "a thread that waits, at once", partial(tells_at_once, bench)
     yield "a child that a signal ended while it waits", partial(kills_late, bench)
     for way in ("LD_PRELOAD", "--preload"):
@@ -558,6 +559,15 @@ def cases(bench: Bench) -> Iterator[Case]:
     yield "an option after the program", partial(tells_astray, bench)
     yield "the shim that is built for it", partial(builds_shim, bench)
     yield "a trace that is not legal", partial(is_illegal, bench)
+
+
+def orders_ends(bench: Bench) -> None:
+    """The end of a program, where the library closes what its streams close, comes before the fork after its wait."""
+    ran = bench.judged("--shim", bench.shim(), "sh", "-c", "echo a | cat > g; cat g")
+    last = ran.stdout.decode("ascii").splitlines()[-1:]
+    links = f"{NOT_JUDGED}1 answer differs with a reason: size and links of a pipe in fstat; {AN_ORDER}"
+    wanted = links.replace("gives all answers", "gives all other answers")
+    same((3, b"", [wanted]), (ran.status, ran.stderr, last))
 
 
 def is_kept(bench: Bench) -> None:
