@@ -17,7 +17,7 @@ from support.call_logs import is_wait
 from support.plain_model import TRANSFER_MAX
 from support.runs import Line
 
-from past import HANDLER, RAN, SIGNAL, Past
+from past import HANDLER, RAN, SIGNAL, UNENDED, Past
 
 # What a handler does to a call that waits; and that there is none, or that the signal is ignored.
 ENDS, RESTARTS, NONE, IGNORED = "ends", "restarts", "none", "ignored"
@@ -37,6 +37,12 @@ def signal_named(number: int) -> str:
         return f"signal {number} ({signal.Signals(number).name})"
     except ValueError:
         return f"signal {number}"
+
+
+def told_not_ended(native: Sequence[Past]) -> list[str]:
+    """The native calls in which a handler ran that ends calls, and that did not end by it."""
+    told = "{} came in p{} {}, which did not end by it: whether it waited then is not known"
+    return [told.format(signal_named(int(it.name)), it.number, it.call) for it in native if it.kind == UNENDED]
 
 
 def length_of(line: Line) -> int:

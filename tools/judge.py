@@ -67,15 +67,17 @@ The last line says what the exit status means:
    what is known to be harmless), a thread that waits and holds its process, a child that a signal ended, a
    descriptor that no call of fdref made, and a right. Or no order gives the answers; or the audit finds a fault. Or
    a call of the system does what it may not beside its answer: it blocks other signals, SIGPIPE comes otherwise than
-   once with EPIPE, SA_RESTART is set otherwise, a wait tells otherwise of a child than the kernel, an exec gives a
-   program other words, a read changes what is beyond its buffer; or it has not come back to the end
+   once with EPIPE, SA_RESTART is set otherwise, it goes on after a signal that ends it (as x86-64 tells), a wait
+   tells otherwise of a child than the kernel, an exec gives a program other words, a read changes what is beyond its
+   buffer; or it has not come back to the end
 2  wrong words
 3  not judged: answers differ that have a reason; or one of these may be why; or a process makes another call, so
    that its program went another way, as by the time, a timer, the number of a process, an address or a mode; or
    the two end otherwise or write something else though no answer differs without a reason. The last line names
    it (`perhaps by ..`). Or the program could not be run or compared, ended with neither, or crashed with both,
    as by a bad address, or a child did so with fdref for which it waited; or a call was made while another one
-   of its process waits; or judge.py itself has a fault
+   of its process waits; or it is not known whether one waited on the system that a signal ends, and did not; or
+   judge.py itself has a fault
 """
 
 import argparse
@@ -122,7 +124,7 @@ import preloads
 import some_order
 import waits
 from compare_reasons import PAGE, Reason, told_reason
-from handlers import ended_ignoring, signal_named
+from handlers import ended_ignoring, signal_named, told_not_ended
 from partings import OF_TIME, Compared, Finding, Parting, agrees, is_of_room
 from standstill import Beside, Standstill, seen_beside
 
@@ -767,6 +769,7 @@ class Verdict:
         if self.is_caused() or not self.has_ended() or crash_of(self.both) or self.crashes:
             return 3
         is_alike = not self.counted() and not self.flags and not (self.order and self.order.is_roomy)
+        is_alike = is_alike and not told_not_ended(self.native)
         return 0 if is_alike and self.both.system == self.both.fdref else 3
 
 
@@ -989,7 +992,8 @@ def told_not_judged(verdict: Verdict) -> str:
     if verdict.flags_by:
         return f"{past.told_flags(verdict.flags)[0]}, perhaps by {verdict.flags_by.why()}"
     if verdict.both.system == verdict.both.fdref:
-        return told_reasons(verdict)
+        unended = told_not_ended(verdict.native)
+        return unended[0] if unended and not verdict.counted() else told_reasons(verdict)
     cause, order = verdict.cause_of_end(), verdict.order
     told = f"the two runs end otherwise, or write something else, perhaps by {cause}"
     if not order or not order.is_found:

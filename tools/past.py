@@ -40,6 +40,8 @@ CLOEXEC = "cloexec"
 OWN = "own"
 # What a native call has done beside its answer that it may not do.
 WRONG = "wrong"
+# A native call that a signal may have ended, whose number stands after the call, and that has not ended by it.
+UNENDED = "unended"
 COUNTED = {
     PATH: "path",
     STREAM: "stream",
@@ -51,7 +53,7 @@ COUNTED = {
 MANY = {MAKES: "descriptors of the system"}
 
 # Kinds that have changed nothing in the native run which has no line, or are asked for by themselves.
-UNDOUBTED = (THREAD, SIGNAL, VFORK, CUT, INTERRUPT, TIMER, MADE, HANDLER, MAKES, RIGHTS, LOOK, OWN, WRONG)
+UNDOUBTED = (THREAD, SIGNAL, VFORK, CUT, INTERRUPT, TIMER, MADE, HANDLER, MAKES, RIGHTS, LOOK, OWN, WRONG, UNENDED)
 
 # Calls that look, or hasten what comes anyway: they change no file, but may tell something else than natively.
 LOOKS = re.compile(
@@ -102,7 +104,7 @@ class Past(NamedTuple):
 
     def is_past(self) -> bool:
         """Whether it is a call that went past fdref, and not what holds one of fdref."""
-        return self.kind not in (THREAD, SIGNAL, MADE, INTERRUPT, HANDLER, MAKES, RIGHTS, LOOK, OWN, WRONG)
+        return self.kind not in (THREAD, SIGNAL, MADE, INTERRUPT, HANDLER, MAKES, RIGHTS, LOOK, OWN, WRONG, UNENDED)
 
     def why(self) -> str:
         """The same as what a difference may be by."""

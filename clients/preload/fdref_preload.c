@@ -33,12 +33,13 @@
                         14<tab>ends`, as it sets a handler of signal 14 that ends calls, or `restarts` them, or takes it
                         away (`none`), or as the signal is `ignored`. `- 6 p0 makes socket` is a call that makes a
                         descriptor of the system, from 32 on, where a native run has the lowest that is free. In a
-                        native run eight kinds are there: after `- 0 p0 cut exit` a process ended while others of its
+                        native run nine kinds are there: after `- 0 p0 cut exit` a process ended while others of its
                         threads may have been in a call; by `! 0 p0 made 3` a descriptor is higher since 3 is open,
                         which no call made that fdref knows; and `signal`, `look`, `handler` and `! 57 p0 cloexec
                         F_GETFD<tab>3 = 0`, with the length of the log in the place of the place: F_GETFD, or F_SETFD,
                         has answered otherwise than by FD_CLOEXEC as this library keeps it, in a process of one thread.
-                        So is `! 57 p0 wrong write<tab>has changed which signals are blocked`, which no line tells.
+                        So is `! 57 p0 wrong write<tab>has changed which signals are blocked`, which no line tells, and
+                        `- 57 p0 unended read<tab>10`, which may have waited as a handler ran that ends calls.
                         There a child has the handlers of its parent once more, and after an exec 0 stands for all
                         signals. After `ends heard` or `restarts heard` this library calls the handler, and notes `- 57
                         p0 ran 14` before.
@@ -267,14 +268,15 @@ static int64_t gone_to_lowest(const struct going *it, int64_t given)
     }
 
 /* What follows in a function that may wait, where `given` is what the next one gives. A handler may make calls of its
-   own meanwhile. */
-#define NEXT_WITHIN(given, call) \
+   own meanwhile, and end this one. */
+#define NEXT_WITHIN(given, call) NEXT_TILL_ENDED(given, call, NULL)
+#define NEXT_TILL_ENDED(given, call, end) \
     do { \
         const void *before = go_in(&next); \
         const int64_t start = began; \
-        const struct masked masked = before_call(__func__); \
+        const struct masked masked = before_call(__func__, end); \
         given = call; \
-        after_call(&masked, __func__); \
+        after_call(&masked, __func__, given); \
         began = start; \
         within = before; \
     } while (0)
@@ -322,13 +324,14 @@ static int is_opened(struct going *it, int folder, const char *name, int flags)
     { \
         NEXT_OF(name); \
         struct going going; \
+        struct ending end = ending_of(-1, path, 0, 0); \
         int given; \
         mode_of \
         if (IS_INNER) \
             return next words; \
         if (is_opened(&going, folder, path, flags)) \
             return (int)going.done; \
-        NEXT_WITHIN(given, next words); \
+        NEXT_TILL_ENDED(given, next words, &end); \
         return (int)gone_to_lowest(&going, given); \
     }
 #define OPENS(name, also) \
@@ -668,6 +671,7 @@ static ssize_t moved(struct moving *it, ssize_t given)
     { \
         NEXT_OF(name); \
         struct moving moving; \
+        struct ending end = ending_of(fd, data, count, is_write((act_of).kind) ? count : 0); \
         ssize_t given; \
         if (IS_INNER) \
             return next words; \
@@ -676,7 +680,7 @@ static ssize_t moved(struct moving *it, ssize_t given)
         moving.parts = NULL; \
         if (is_moved(&moving)) \
             return (ssize_t)moving.going.done; \
-        NEXT_WITHIN(given, next words); \
+        NEXT_TILL_ENDED(given, next words, &end); \
         return moved(&moving, given); \
     }
 
@@ -732,12 +736,14 @@ static ssize_t freed(struct moving *it, int64_t done)
     { \
         NEXT_OF(name); \
         struct moving moving; \
+        struct ending end; \
         ssize_t given; \
         if (IS_INNER) \
             return next(fd, parts, count); \
         if (are_moved(&moving, act_of, parts, count)) \
             return freed(&moving, moving.going.done); \
-        NEXT_WITHIN(given, next(fd, parts, count)); \
+        end = ending_of(fd, parts, 0, is_write(moving.going.act.kind) ? moving.going.act.count : 0); \
+        NEXT_TILL_ENDED(given, next(fd, parts, count), &end); \
         return freed(&moving, moved(&moving, given)); \
     }
 

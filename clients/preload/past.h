@@ -482,29 +482,37 @@ mode_t umask(mode_t mask)
 /* ---- handlers of signals */
 
 /* A handler that the program has set runs, and it is noted before. */
-static void hear(int number)
+static void hear_so(int number, siginfo_t *info, void *context, int is_plain)
 {
     struct keeping *kept = pause_keeping();
     struct inside was = leave();
+    struct ending *within_it = ending;
+    ending = NULL;
     note_run(number);
     runs++;
-    if (passed_on[number].plain)
+    if (is_plain && passed_on[number].plain)
         passed_on[number].plain(number);
+    else if (!is_plain && passed_on[number].more)
+        passed_on[number].more(number, info, context);
+    ending = within_it;
     come_back(was);
     go_on_keeping(kept);
 }
 
 static void hear_more(int number, siginfo_t *info, void *context)
 {
-    struct keeping *kept = pause_keeping();
-    struct inside was = leave();
-    note_run(number);
-    runs++;
-    if (passed_on[number].more)
-        passed_on[number].more(number, info, context);
-    come_back(was);
-    go_on_keeping(kept);
+    meet_handler(number, context, (const char *)__builtin_frame_address(0));
+    hear_so(number, info, context, 0);
 }
+
+/* The kernel of x86-64 gives the same to a handler that has the number alone. */
+static void hear_plain(int number, siginfo_t *info, void *context)
+{
+    meet_handler(number, context, (const char *)__builtin_frame_address(0));
+    hear_so(number, info, context, 1);
+}
+
+#define HEAR ((handler)(uintptr_t)hear_plain)
 
 /* Whether natively this library is to call a handler of a signal. */
 static int hears(int number)
@@ -513,7 +521,7 @@ static int hears(int number)
 }
 
 /* SIG_DFL, SIG_IGN, SIG_HOLD and SIG_ERR are none. */
-static int is_function(handler to) { return (uintptr_t)to > 2 && to != SIG_ERR && to != hear; }
+static int is_function(handler to) { return (uintptr_t)to > 2 && to != SIG_ERR && to != HEAR; }
 
 typedef int acts_next(int, const struct sigaction *, struct sigaction *);
 
@@ -559,7 +567,7 @@ static int set_heard(acts_next *next, int number, const struct sigaction *to, st
     } else if (to && (to->sa_flags & SA_SIGINFO) == 0 && is_function(to->sa_handler)) {
         passed_on[number].plain = to->sa_handler;
         passed_on[number].more = NULL;
-        own.sa_handler = hear;
+        own.sa_handler = HEAR;
     } else if (to) {
         passed_on[number].plain = NULL;
         passed_on[number].more = NULL;
@@ -572,7 +580,7 @@ static int set_heard(acts_next *next, int number, const struct sigaction *to, st
     is_setting = 0;
     if (given != 0)
         passed_on[number] = last;
-    if (given == 0 && past.sa_handler == hear)
+    if (given == 0 && past.sa_handler == HEAR)
         past.sa_handler = last.plain;
     else if (given == 0 && past.sa_sigaction == hear_more)
         past.sa_sigaction = last.more;
@@ -593,12 +601,12 @@ static handler set_plain(handler (*next)(int, handler), int number, handler to)
     passed_on[number].plain = is_function(to) ? to : NULL;
     passed_on[number].more = NULL;
     is_setting = 1;
-    given = next(number, is_function(to) ? hear : to);
+    given = next(number, is_function(to) ? HEAR : to);
     is_setting = 0;
     error = errno;
     if (given == SIG_ERR)
         passed_on[number] = last;
-    if (given == hear)
+    if (given == HEAR)
         given = last.plain;
     else if ((uintptr_t)given == (uintptr_t)hear_more)
         given = (handler)(uintptr_t)last.more;

@@ -1,25 +1,139 @@
 /* watch.h: a part of fdref_preload.c. What a native call does beside its answer, which no line tells: to the signals
-   that are blocked, and how often SIGPIPE comes with a write. */
+   that are blocked, whether it goes on after one that ends it, and how often SIGPIPE comes with a write. */
+
+/* ---- signals that end a call
+
+   A handler without SA_RESTART ends a call that waits: with EINTR, or with what a write has moved. One that runs before
+   the call waits, or after it has its answer, ends nothing. What the kernel has kept for the end of the handler tells
+   that apart, which is looked at on x86-64 alone: where the handler has come, and what a system call gave there. */
+
+/* What a call has: its descriptor, or -1; its bytes, the parts of these, or its path; how many bytes are there, and how
+   many a write moves in all. And what a handler has met: that a signal has ended the call, of which so much was moved
+   then, or that this is not known. */
+struct ending {
+    int fd;
+    const char *at;
+    uint64_t size, total;
+    enum { NOT_MET, NOT_KNOWN, IS_ENDED } met;
+    int number;
+    uint64_t moved;
+};
+static __thread struct ending *ending;
+
+static struct ending ending_of(int fd, const void *at, uint64_t size, uint64_t total)
+{
+    struct ending it = {fd, (const char *)at, size, total, NOT_MET, 0, 0};
+    return it;
+}
+
+#if defined __x86_64__ && !defined __ILP32__
+
+/* Whether a handler has come right after a system call. The bytes before are looked at in one page alone. */
+static int is_after_call(const greg_t *kept)
+{
+    const unsigned char *at = (const unsigned char *)(uintptr_t)kept[REG_RIP];
+    return (uintptr_t)at % 4096 >= 2 && at[-2] == 0x0f && at[-1] == 0x05;
+}
+
+/* Whether that was made for a call, with its descriptor, or with its path. */
+static int is_made_for(const struct ending *it, const greg_t *kept)
+{
+    uintptr_t one = (uintptr_t)kept[REG_RDI], other = (uintptr_t)kept[REG_RSI], at = (uintptr_t)it->at;
+    if (it->fd < 0)
+        return one == at || other == at;
+    return (int)one == it->fd && other >= at && other - at <= it->size;
+}
+
+/* What a handler of a signal has met that ends calls. That all signals are blocked meanwhile does not tell it. */
+static void meet(struct ending *it, int number, const ucontext_t *context)
+{
+    const greg_t *kept = context->uc_mcontext.gregs, given = kept[REG_RAX];
+    uint64_t before = it->fd < 0 ? 0 : (uint64_t)kept[REG_RSI] - (uintptr_t)it->at;
+    uint64_t asked = it->size > 0 ? (uint64_t)kept[REG_RDX] : it->total;
+    int is_mask = given == 0 && (kept[REG_RDI] == SIG_UNBLOCK || kept[REG_RDI] == SIG_SETMASK) && kept[REG_R10] == 8;
+    if (!is_after_call(kept))
+        return;
+    if (is_made_for(it, kept) && (given == -EINTR || (given > 0 && (uint64_t)given < asked && it->total > 0))) {
+        it->met = IS_ENDED;
+        it->moved = before + (given > 0 ? (uint64_t)given : 0);
+    } else if (given == -EINTR || is_mask) {
+        it->met = NOT_KNOWN;
+    }
+    if (it->met != NOT_MET)
+        it->number = number;
+}
+
+/* A handler runs that the kernel has called, if what that has kept is behind its frame; else a library has. */
+static void meet_handler(int number, const void *context, const char *frame)
+{
+    if (!ending || ending->met == IS_ENDED || handlings[number] != ENDS_CALLS)
+        return;
+    if ((const char *)context == frame + 16) {
+        meet(ending, number, (const ucontext_t *)context);
+    } else {
+        ending->met = NOT_KNOWN;
+        ending->number = number;
+    }
+}
+
+#else
+
+static void meet_handler(int number, const void *context, const char *frame)
+{
+    (void)number;
+    (void)context;
+    (void)frame;
+}
+
+#endif
+
+/* Whether a descriptor is that of a pipe, and waits. */
+static int is_waiting_pipe(int fd)
+{
+    int flags = seek_by(fd, SEEK_CUR) < 0 ? system_fcntl(fd, F_GETFL, 0) : -1;
+    return flags >= 0 && (flags & O_NONBLOCK) == 0;
+}
+
+/* Notes that a call has gone on after a signal that ends it, or that it may have. */
+static void check_gone_on(const struct ending *it, const char *name, int64_t given)
+{
+    char text[60];
+    int error = errno, is_cut = given < 0 ? error == EINTR : it->total > 0 && (uint64_t)given < it->total;
+    if (it->met == IS_ENDED && it->moved == 0 && !(given < 0 && error == EINTR)) {
+        snprintf(text, sizeof text, "has gone on after signal %d has ended it", it->number);
+        note_wrong(name, text);
+    } else if (it->met == IS_ENDED && it->moved > 0 && given > (int64_t)it->moved && is_waiting_pipe(it->fd)) {
+        snprintf(text, sizeof text, "has gone on after signal %d has cut it short", it->number);
+        note_wrong(name, text);
+    } else if (it->met == NOT_KNOWN && !is_cut) {
+        snprintf(text, sizeof text, "%d", it->number);
+        notes("unended", name, text);
+    }
+    errno = error;
+}
 
 /* ---- the signals that are blocked */
 
 /* How many handlers that this library calls have run in this thread. */
 static __thread unsigned runs;
 
-/* What was blocked before a native call that may wait, and how many handlers had run. */
+/* What was blocked before a native call that may wait, how many handlers had run, and what ends this call, and the one
+   around it. */
 struct masked {
     int is_known;
     unsigned runs;
     sigset_t signals;
+    struct ending *own, *outer;
 };
 
-static struct masked before_call(const char *name)
+static struct masked before_call(const char *name, struct ending *own)
 {
-    struct masked before = {is_watching(), runs, {{0}}};
+    struct masked before = {is_watching(), runs, {{0}}, own, ending};
     if (before.is_known)
         say_inside(own_pid, (uint64_t)native_number + 1, name);
     if (before.is_known)
         before.is_known = pthread_sigmask(SIG_BLOCK, NULL, &before.signals) == 0;
+    ending = before.is_known ? own : NULL;
     return before;
 }
 
@@ -42,10 +156,13 @@ static int are_same(const sigset_t *one, const sigset_t *other)
 }
 
 /* A handler may change what is blocked, and a call may not. */
-static void after_call(const struct masked *before, const char *name)
+static void after_call(const struct masked *before, const char *name, int64_t given)
 {
     int error = errno;
     sigset_t now;
+    ending = before->outer;
+    if (before->own)
+        check_gone_on(before->own, name, given);
     if (is_watching())
         say_inside(own_pid, 0, "");
     if (before->is_known && before->runs == runs && pthread_sigmask(SIG_BLOCK, NULL, &now) == 0
@@ -80,7 +197,7 @@ static int is_idle(int number)
 
 static struct masked mask_behind(void)
 {
-    struct masked before = {is_watching(), runs, {{0}}};
+    struct masked before = {is_watching(), runs, {{0}}, NULL, NULL};
     sigset_t idle;
     int error = errno;
     sigemptyset(&idle);

@@ -1,6 +1,7 @@
 /* Has a process that a signal ends.
 
    usage: judge_signals kills|late|address|child|by-number|aborts|stops|interrupts|jumps
+                        |read|readv|write|open|hears
 
    kills    has a child that reads an empty pipe, and kills it
    late     the same, and reads what it writes to the pipe then
@@ -10,7 +11,12 @@
    aborts   aborts
    stops    raises SIGTERM
    interrupts  has a signal come while it reads an empty pipe
-   jumps    jumps out of the handler of a signal that comes while it reads an empty pipe */
+   jumps    jumps out of the handler of a signal that comes while it reads an empty pipe
+   read     has a signal come while it reads an empty pipe, and reads again, until a child writes to it
+   readv    the same by readv
+   write    the same of a write to a pipe that is full
+   open     the same of an open of a FIFO
+   hears    reads what is there, with a handler of a signal */
 
 #define _DEFAULT_SOURCE
 
@@ -21,7 +27,9 @@
 #include <stdint.h>
 #include <stdlib.h>
 #include <string.h>
+#include <sys/stat.h>
 #include <sys/time.h>
+#include <sys/uio.h>
 #include <sys/wait.h>
 #include <unistd.h>
 
@@ -52,6 +60,61 @@ static int interrupt(void)
     action.sa_handler = handle;
     return sigaction(SIGALRM, &action, NULL) || pipe(ends) || setitimer(ITIMER_REAL, &times, NULL)
         || read(ends[0], &byte, 1) != -1 || errno != EINTR;
+}
+
+enum { MANY = 100000 };
+
+/* A child sends a signal to its parent, and then lets it go on: it reads all of a pipe, or opens a FIFO, or writes. */
+static pid_t signals_and_serves(const char *what, const int ends[2])
+{
+    char bytes[4096];
+    pid_t child = fork(), parent = getppid();
+    int to = ends[1];
+    if (child != 0)
+        return child;
+    close(ends[what[0] == 'w']);
+    usleep(300000);
+    kill(parent, SIGUSR1);
+    usleep(300000);
+    while (what[0] == 'w' && read(ends[0], bytes, sizeof bytes) > 0)
+        continue;
+    if (what[0] == 'o')
+        to = open("f", O_WRONLY);
+    _exit(what[0] != 'w' && write(to, "y", 1) != 1);
+}
+
+/* Makes a call once. */
+static ssize_t made_once(const char *what, const int ends[2], char *bytes, size_t size)
+{
+    struct iovec part = {bytes, 1};
+    if (strcmp(what, "readv") == 0)
+        return readv(ends[0], &part, 1);
+    if (what[0] == 'o')
+        return open("f", O_RDONLY);
+    return what[0] == 'w' ? write(ends[1], bytes, size) : read(ends[0], bytes, 1);
+}
+
+/* Makes a call again as long as a signal ends it, or has cut it short. */
+static int makes_again(const char *what)
+{
+    static char bytes[MANY];
+    struct sigaction action;
+    int ends[2], status;
+    size_t moved = 0, size = what[0] == 'w' ? MANY : 1;
+    ssize_t done;
+    pid_t child;
+    memset(&action, 0, sizeof action);
+    action.sa_handler = handle;
+    if (sigaction(SIGUSR1, &action, NULL) || pipe(ends) || mkfifo("f", 0600))
+        return 1;
+    if (strcmp(what, "hears") == 0)
+        return write(ends[1], "y", 1) != 1 || read(ends[0], bytes, 1) != 1;
+    child = signals_and_serves(what, ends);
+    do {
+        done = made_once(what, ends, bytes + moved, size - moved);
+        moved += done > 0 && what[0] == 'w' ? (size_t)done : 0;
+    } while ((done < 0 && errno == EINTR) || (what[0] == 'w' && done > 0 && moved < size));
+    return done < 0 || close(ends[1]) || waitpid(child, &status, 0) != child || status != 0;
 }
 
 static sigjmp_buf before;
@@ -89,6 +152,8 @@ int main(int count, char **words)
     if (strcmp(what, "by-number") == 0 && waitid(P_ALL, 0, &told, WEXITED) != 0)
         return 1;
     if (strcmp(what, "interrupts") == 0 && interrupt() != 0)
+        return 1;
+    if (what[0] && strchr("rwoh", what[0]) && makes_again(what) != 0)
         return 1;
     if (strcmp(what, "aborts") == 0)
         abort();

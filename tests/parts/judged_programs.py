@@ -1,6 +1,7 @@
 """Programs of tests/c that are judged by tools/judge.py: what it says of each, and that nothing is left."""
 
 import os
+import platform
 import re
 import select
 import shlex
@@ -548,6 +549,10 @@ def cases(bench: Bench) -> Iterator[Case]:
     yield "a read of more than was asked for", partial(finds_long_reads, bench)
     for word, line in WRONGED.items():
         yield f"a wrong call: {word}", partial(finds_wrong_calls, bench, word, line)
+    if platform.machine() == "x86_64":
+        for wrong, word, status, last in GOES_ON_AFTER:
+            name = f"a signal that ends a call, which {word} makes: {wrong}"
+            yield name, partial(goes_on_after_signals, bench, wrong, word, status, last)
     yield "the library itself in LD_PRELOAD", partial(leaves_out_itself, bench)
     yield "a program that takes long", partial(tells_long_runs, bench)
     yield "a server that leaves a process", partial(is_left_by_server, bench)
@@ -730,6 +735,36 @@ def finds_wrong_calls(bench: Bench, word: str, line: str) -> None:
     said = ran.stdout.decode("ascii").splitlines()
     require(ran.status == 1 and any(it.startswith(line) for it in said), ran.said())
     require(said[-1].startswith("verdict: a difference: "), ran.said())
+
+
+NOT_ENDED = f"{NOT_JUDGED}signal 10 (SIGUSR1) came in p0 read, which did not end by it: whether it waited then is not "
+ENDED = f"{NOT_JUDGED}1 answer differs with a reason: a signal ends a call (EINTR): signal 10 (SIGUSR1) has a handler"
+AGREES = "verdict: agreement: no answer differs"
+# What is said of a program of judge_signals with a part of a C library that goes on after a signal, or that is right.
+GOES_ON_AFTER = [
+    ("read-retried", "read", 1, f"{OF_SYSTEM}p0 read: has gone on after signal 10 has ended it"),
+    ("readv-retried", "readv", 1, f"{OF_SYSTEM}p0 readv: has gone on after signal 10 has ended it"),
+    ("open-retried", "open", 1, f"{OF_SYSTEM}p0 open: has gone on after signal 10 has ended it"),
+    ("write-finished", "write", 1, f"{OF_SYSTEM}p0 write: has gone on after signal 10 has cut it short"),
+    ("read-polled", "read", 3, NOT_ENDED),
+    ("read-masked", "read", 3, NOT_ENDED),
+    ("signal-before", "hears", 0, AGREES),
+    ("signal-after", "hears", 0, AGREES),
+    ("none", "read", 3, ENDED),
+    ("none", "open", 3, ENDED),
+    ("none", "hears", 0, AGREES),
+]
+
+
+def goes_on_after_signals(bench: Bench, wrong: str, word: str, status: int, last: str) -> None:
+    """A call that goes on after a signal that ends it is a difference where the kernel tells it, and else not judged. A
+    signal that comes before a call waits, or after it has its answer, ends nothing."""
+    library = bench.path("goes-on.so")
+    if not os.path.exists(library):
+        compiles([bench.compiler, "-O2", *WARNINGS, "-shared", "-fPIC", str(C_TESTS / "goes_on.c"), "-o", library])
+    words = ("--pipe-capacity", "65536", "--preload", library, bench.compiled("judge_signals"), word)
+    ran = bench.judged("--shim", bench.shim(), *words, variables=(f"WRONG={wrong}",))
+    require(ran.status == status and ran.stdout.decode("ascii").splitlines()[-1].startswith(last), ran.said())
 
 
 def leaves_out_itself(bench: Bench) -> None:
