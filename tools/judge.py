@@ -93,6 +93,7 @@ import signal
 import socket
 import stat
 import struct
+import subprocess
 import sys
 import tempfile
 import termios
@@ -111,7 +112,7 @@ from support.commands import add_capacity, add_program, capacity_words, program_
 from support.counting import Failure
 from support.ordering import ROOMY
 from support.places import TOP
-from support.running import Ran, run
+from support.running import Ran, StillRunning
 from support.runs import ALL_RECORDS, Line
 from support.serving import is_listening, outcome_of, serve_words, started
 from support.texts import difference, several
@@ -261,12 +262,21 @@ class Server:
 
 
 def run_within(words: Sequence[str], what: str, seconds: float) -> Ran:
-    """Runs a program that is waited for at most so long, which is told where it takes long."""
+    """Runs a program that is waited for at most so long, which is told where it takes long. What it has started ends
+    with it where it does not end by itself."""
+    pipes = {"stdout": subprocess.PIPE, "stderr": subprocess.PIPE}
+    process = subprocess.Popen(words, stdin=subprocess.DEVNULL, start_new_session=True, **pipes)
     try:
         with waits.Waiting(what, seconds):
-            return run(words, seconds=seconds)
-    except Failure as fault:
-        raise CannotJudge(f"waited for {what}: {fault}") from None
+            stdout, stderr = process.communicate(timeout=seconds)
+    except BaseException as fault:
+        with contextlib.suppress(ProcessLookupError):
+            os.killpg(process.pid, signal.SIGKILL)
+        rest_of(process)
+        if isinstance(fault, subprocess.TimeoutExpired):
+            raise CannotJudge(f"waited for {what}: {StillRunning(seconds)}") from None
+        raise
+    return Ran(process.returncode, stdout, stderr)
 
 
 def built_shim(folder: str) -> str:

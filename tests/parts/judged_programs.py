@@ -556,6 +556,7 @@ def cases(bench: Bench) -> Iterator[Case]:
     yield "the library itself in LD_PRELOAD", partial(leaves_out_itself, bench)
     yield "a program that takes long", partial(tells_long_runs, bench)
     yield "a server that leaves a process", partial(is_left_by_server, bench)
+    yield "a compiler that takes too long", partial(ends_compilers, bench)
     yield "threads in a log", partial(names_threads, bench)
     yield "a process that ends beside a thread", partial(ends_beside_threads, bench)
     yield "what is kept, and standard input", partial(is_kept, bench)
@@ -798,6 +799,22 @@ def is_left_by_server(bench: Bench) -> None:
         cannot_run(bench, ("--program", leaves, "--shim", bench.shim(), "true"), "no server: status 1: ", ())
     finally:
         os.kill(int(left.read_text(encoding="ascii")), signal.SIGKILL)
+
+
+BUILT_SOON = "import sys; sys.path[:0] = [{!r}]; import judge; judge.BUILD_SECONDS = 2; sys.exit(judge.main({!r}))"
+
+
+def ends_compilers(bench: Bench) -> None:
+    """A compiler that takes too long is ended, and what it has started, too."""
+    compiler = bench.path("slow-cc")
+    Path(compiler).write_text(f"#!/bin/sh\nsh -c 'sleep {2 * SECONDS}; : {bench.folder}' &\nwait\n", encoding="ascii")
+    os.chmod(compiler, 0o700)
+    code = BUILT_SOON.format(str(TOOLS), ["--program", bench.program, bench.compiled("judge_agrees")])
+    env = ["env", f"TMPDIR={bench.scratch}", f"CC={compiler}"]
+    ran = run([*env, sys.executable, "-c", code], seconds=SECONDS)
+    told = f"judge.py: waited for {compiler} to compile the library: still running after 2 seconds\n"
+    same((3, b"", told.encode()), (ran.status, ran.stdout, without_waits(ran.stderr)))
+    bench.is_clean()
 
 
 def tells_unread(bench: Bench) -> None:
