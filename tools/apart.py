@@ -20,7 +20,8 @@ from support.runs import Line, Settled, line_of
 from support.searching import FOREVER, Step
 
 from compare_instead import Appending, ways
-from compare_reasons import APPENDED, Difference, Reason, follows_append, is_paged_room, is_room, reason_of
+from compare_reasons import APPENDED, Difference, Reason, appended_to, follows_append, is_paged_room, is_room
+from compare_reasons import reason_of
 from compare_runs import act_of, together
 
 # How a reason is looked for.
@@ -100,6 +101,8 @@ class Beside:
         self.run = Settled(limits)
         self.run.world = world(limits)
         self.answers: list[str] = []
+        # the pwrites under append, by their places
+        self.appends: list[int] = []
         # how many bytes each pipe was seen to hold
         self.held: dict[Pipe, int] = {}
         # the call in which each process waits, by its place
@@ -118,6 +121,7 @@ class Beside:
         """Lets acts take place instead of a call, which give what that gave."""
         seen = len(self.run.lines)
         for act in acts:
+            self.see_append(act)
             self.run.take(act)
         lines = list(map(read_line, self.run.lines[seen:]))
         if lines and is_waiting(lines[-1].outcome):
@@ -135,6 +139,7 @@ class Beside:
         seen = len(self.run.lines)
         process = self.run.world.processes.get(noted.process)
         at = process.table.get(noted.act.fields[0]) if process and noted.act.word == "write" else None
+        self.see_append(noted.act)
         self.run.take(noted.act)
         if at and at.pipe and noted.outcome == str(len(noted.act.fields[1])):
             self.held[at.pipe] = max(self.held.get(at.pipe, 0), len(at.pipe.data))
@@ -145,6 +150,10 @@ class Beside:
         for line in resumes:
             if line.number() in self.waiting:
                 self.answers[self.waiting[line.number()]] = line.outcome
+
+    def see_append(self, act: Act) -> None:
+        """Notes a pwrite under append before it takes place."""
+        self.appends += [len(self.answers)] if appended_to(self.run.world, act) is not None else []
 
     def lines(self) -> list[Line]:
         """The lines of the run."""
@@ -205,15 +214,18 @@ def apart_at(
     reason = why(difference)
     # what the fstat after such a pwrite tells has to follow from all of them
     if reason is None or (reason is APPENDED and follows_append(difference)):
-        reason = APPENDED if is_by_append(history[: place + 1], limits, known - {place}, instead) else None
+        reason = APPENDED if is_by_append(history, place, limits, known - {place}, instead) else None
     difference.reason = reason
     return Apart(place, history[place], answer, limits, reason, difference.is_settled(), NOTHING), difference
 
 
-def is_by_append(history: Sequence[Noted], limits: Limits, known: set[int], instead: Instead) -> bool:
-    """Whether the calls give what was noted, but for the known ones, where a pwrite under append writes at the end."""
-    answers = Beside(history, limits, Appending, instead).answers
-    return all(at in known or is_given(noted, answers[at]) for at, noted in enumerate(history))
+def is_by_append(history: Sequence[Noted], place: int, limits: Limits, known: set[int], instead: Instead) -> bool:
+    """Whether the calls up to one give what was noted, but for the known ones, where a pwrite under append before them
+    writes at the end. What comes after them is there too: it may wake one that waits."""
+    appending = Beside(history, limits, Appending, instead)
+    answers = appending.answers[: place + 1]
+    has_appended = any(at < place for at in appending.appends)
+    return has_appended and all(at in known or is_given(history[at], answers[at]) for at in range(place + 1))
 
 
 def parted(history: Sequence[Noted], limits: Limits, why: Why = reason_of) -> list[Apart]:

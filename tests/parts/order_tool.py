@@ -141,12 +141,14 @@ CHOICES += [
 ]
 # What differs of one call after another without being such a choice, what fdref answers, and what is told of it.
 APPENDED = f"{JOINED}2 3 p0 open a rw,creat,append = 0\n4 5 p0 pwrite 0 0 x61 = 1\n6 7 p0 pwrite 0 0 x62 = 1\n"
+LARGE_APPENDED = APPENDED.replace("x62 = 1", "62*65537 = 65537")
 APPEND = "pwrite under O_APPEND appends (the system departs; page of write (pwrite))"
 NUMBERED = "docs/PROFILE.md: processes are numbered 0, 1, 2 .. in the order of joins and forks (own)"
 UNCHOSEN = [
     (f"{FILED}4 5 p0 write 0 x61 = 1\n", "6 7 p0 pread 0 0 9 = x62", "x61", "page of pread"),
     (APPENDED, "8 9 p0 pread 0 0 9 = x6162", "x62", f"reason: {APPEND}"),
     (APPENDED, "8 9 p0 fstat 0 = regular 2 1", "regular 1 1", f"reason: {APPEND}"),
+    (LARGE_APPENDED, "8 9 p0 pread 0 0 1 = x61", "x62", f"reason: {APPEND}"),
     (APPENDED, "8 9 p0 pread 0 0 9 = x6163", "x62", "page of pread"),
     (APPENDED, "8 9 p0 fstat 0 = regular 3 1", "regular 1 1", "page of fstat"),
     (f"{APPENDED}7 7 p0 pwrite 0 0 x63 = 1\n", "8 9 p0 fstat 0 = regular 2 1", "regular 1 1", "page of fstat"),
@@ -363,6 +365,22 @@ OVERLAPPING = [
     (FORKED, "10 20 p0 read 0 9 = x61\n15 18 p1 open a r,trunc = 1", f"perhaps: {FLAGS}"),
     (FORKED, "10 12 p0 read 0 9 = x61\n15 20 p1 open a r,trunc = 1\n18 19 p0 fstat 0 = regular 0 1", "page of read"),
     (FORKED, "10 20 p0 read 0 9 = x61\n15 18 p1 fstat 0 = regular 0 1", "page of read"),
+]
+# Calls that wait though they are woken, with no pwrite under append, and with one that has no part in it; and what one
+# that has a part in it excuses.
+TWO = f"{PIPED}4 5 p0 fork = 1\n6 7 p1 attach = ok\n"
+BESIDE_APPEND = f"{TWO}10 11 p0 open a rw,creat,append = 2\n12 13 p0 pwrite 2 0 x61 = 1\n14 15 p0 pwrite 2 0 x62 = 1\n"
+NOT_WOKEN = "20 - p0 read 0 4 = parked ?\n30 - p1 write 1 61*3000 = parked ?"
+WAITS_ON = "page of read: it waits until there are data, or no writer"
+OVERLAPPING += [
+    (TWO, NOT_WOKEN, WAITS_ON),
+    (BESIDE_APPEND, NOT_WOKEN, WAITS_ON),
+    (
+        f"{JOINED}2 3 p0 mkfifo f = ok\n4 5 p0 fork = 1\n6 7 p1 attach = ok\n",
+        "10 - p0 open f r = parked ?\n20 - p1 open f w = parked ?",
+        "page of open: it waits until the other end is opened",
+    ),
+    (BESIDE_APPEND, "20 22 p0 pread 2 0 9 = x6162\n21 30 p1 read 7 1 = x61", f"perhaps: {APPEND}"),
 ]
 
 

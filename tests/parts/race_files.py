@@ -107,6 +107,10 @@ ENDS = "join\np0 pipe\np0 fork\np1 attach\n"
 FLAGS = "flags that the standard leaves undefined (own) (page of open)"
 STAT = "size and links of a pipe in fstat (own) (page of fstat)"
 REFUSALS = "order of refusals, where several are due (own) (XSH 2.3)"
+APPEND = "pwrite under O_APPEND appends (the system departs) (page of write (pwrite))"
+BARE = "no reason is known"
+APPENDING = "p0 open a rw,creat,append\np0 pwrite 2 0 x61\np0 pwrite 2 0 x62\n"
+APPENDED = f"{SETUP}10 11 p0 open a rw,creat,append = 2\n12 13 p0 pwrite 2 0 x61 = 1\n14 15 p0 pwrite 2 0 x62 = 1\n"
 CHOICES = [
     (JOINS, JOINED, ["20 30 p0 open a r,trunc = 1", "21 31 p1 open b rw,creat = 0"], 0, FLAGS),
     (ENDS, SETUP, ["20 30 p0 fstat 0 = pipe 0 1", "21 31 p1 getfl 0 = 1"], 0, STAT),
@@ -121,8 +125,12 @@ CHOICES = [
     ),
     # where all else is not explained it may be the reason, and where what comes before it differs it is none
     (JOINS, JOINED, ["20 30 p0 open a r,trunc = 1", "31 41 p0 fstat 1 = regular 0 1"], 1, f"perhaps: {FLAGS}"),
-    (JOINS, JOINED, ["20 30 p0 fstat 0 = regular 7 1", "31 41 p0 open a r,trunc = 1"], 1, "no reason is known"),
+    (JOINS, JOINED, ["20 30 p0 fstat 0 = regular 7 1", "31 41 p0 open a r,trunc = 1"], 1, BARE),
     (ENDS, SETUP, ["20 30 p0 fstat 0 = pipe 0 1", "31 41 p0 read 0 1 = x61"], 1, f"perhaps: {STAT}"),
+    # a read that is not woken has nothing to do with appending
+    (ENDS, SETUP, ["20 - p0 read 0 4 = parked ?", "25 - p1 write 1 61*8000 = parked ?"], 1, BARE),
+    (f"{ENDS}{APPENDING}", APPENDED, ["20 - p0 read 0 4 = parked ?", "25 - p1 write 1 61*8000 = parked ?"], 1, BARE),
+    (f"{ENDS}{APPENDING}", APPENDED, ["20 30 p0 pread 2 0 9 = x6162", "25 31 p1 getfl 0 = 1"], 0, APPEND),
 ]
 
 
