@@ -56,7 +56,8 @@ def is_at_once(asked: "Asked", lines: list[Line], place: int) -> bool:
 
 def fits(asked: "Asked", lines: list[Line], place: int, fdref: Line) -> bool:
     """Whether a line of a system and one of fdref fit. How much a large write moved at once is `?`: the same where a
-    pipe has the same room, by bytes, and nothing where the pipe is full to the last byte."""
+    pipe has the same room, by bytes; nothing where the pipe is full to the last byte, and all of that where it is
+    empty."""
     system = lines[place]
     if system.act != fdref.act:
         return False
@@ -68,9 +69,10 @@ def fits(asked: "Asked", lines: list[Line], place: int, fdref: Line) -> bool:
         totals = zip(system.outcome.split(" "), fdref.outcome.split(" "), strict=True)
         return all(word in ("?", other) for word, other in totals)
     if system.outcome == "parked ?":
-        is_full = fdref.outcome == "parked 0"
+        # nothing goes into a full pipe, and into an empty one all that it holds, whatever it counts
+        is_known = fdref.outcome in ("parked 0", f"parked {asked.limits.capacity}")
         is_same = asked.counts_bytes and not is_at_once(asked, lines, place)
-        return asked.has_same_room and fdref.outcome.startswith("parked ") and (is_same or is_full)
+        return asked.has_same_room and fdref.outcome.startswith("parked ") and (is_same or is_known)
     return (system.place == "-", system.outcome) == (fdref.place == "-", fdref.outcome)
 
 

@@ -380,6 +380,22 @@ def pages_are_a_reason(program: str, folder: str, way: str, script: str, words: 
     require(done.status == 0 and b"room of a pipe that is counted in pages" in done.stdout, done.said())
 
 
+# A large write into an empty pipe of two pages, what is read then, and what a wrong system gives for that.
+TWO_PAGES = f"{FORKED}p1 write 1 61*20000\np0 read 0 30000\n"
+READS_OTHER = "sed 's/^\\([0-9]* p0 read 0 30000\\) = 61\\*8192$/\\1 = 62*8192/'"
+
+
+def filled_pages_fit(program: str, folder: str) -> None:
+    """An empty pipe with pages takes as many bytes as one without, though that is not seen; one that gives others is
+    told."""
+    words = ["--pipe-capacity", "8192"]
+    done = compared(program, folder, "has-two-pages", TWO_PAGES, words)
+    require(done.status == 0 and b" 0 differences\n" in done.stdout, done.said())
+    done = compared(program, folder, "has-two-pages", TWO_PAGES, words, end=f" | {READS_OTHER}")
+    wrong = b" p0 read 0 30000 = 62*8192\nfdref:  5 p0 read 0 30000 = 61*8192\nreason: none\n"
+    require(done.status == 1 and wrong in done.stdout, done.said())
+
+
 # ---- a larger PIPE_BUF
 
 # What a system with pipes of 4,096 bytes and such a PIPE_BUF does otherwise, and is right in.
@@ -555,6 +571,7 @@ def cases(program: str, folder: str) -> Iterator[Case]:
         yield way, partial(less_is_told, program, folder, way, script)
     for less in LESS:
         yield f"{less[0]} {less[1]!r}", partial(less_is_seen, program, folder, *less)
+    yield "has-two-pages", partial(filled_pages_fit, program, folder)
     yield "has-pages, and a read", partial(pages_are_a_reason, program, folder, *NOT_LESS)
     for beside in BESIDE:
         yield f"waits-beside-room {beside[0]!r}", partial(beside_is_told, program, folder, *beside)

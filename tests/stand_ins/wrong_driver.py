@@ -93,6 +93,7 @@ ROOMY = {
     "spoils-parts": plain_model.Limits(capacity=512),
     "has-pages": plain_model.Limits(capacity=65_536),
     "tears-small-writes": plain_model.Limits(capacity=16_384),
+    "has-two-pages": plain_model.Limits(capacity=8_192),
     "has-pages-once": plain_model.Limits(capacity=65_536),
     "tears-beside-pages": plain_model.Limits(capacity=65_536),
 }
@@ -433,6 +434,10 @@ OTHERWISE: dict[str, list[tuple[type, str, Callable[..., object]]]] = {
     "tears-small-writes": [(plain_model.World, "write_end", torn_write)],
     "writes-one-byte": [(plain_model.World, "write_end", one_byte)],
     "has-pages": [
+        (plain_model.Pipe, "room", paged_room),
+        (plain_model.World, "write_end", paged_write(False)),
+    ],
+    "has-two-pages": [
         (plain_model.Pipe, "room", paged_room),
         (plain_model.World, "write_end", paged_write(False)),
     ],
