@@ -51,12 +51,14 @@ from support.ordering import (
     ROOMY,
     SECONDS,
     STATES_MOST,
+    ByEpipe,
     ByParts,
     ByRoom,
     Explained,
     GivenUp,
     Result,
     Unexplained,
+    by_epipe,
     by_parts,
     by_room,
     explain,
@@ -78,6 +80,9 @@ BY_ROOM = "reason: room of a pipe (own; page of write)"
 # What is told of a history that only writes explain that go in by parts, and its reason.
 IN_PARTS = "where writes of more than 512 bytes to a pipe go in by parts"
 BY_PARTS = "reason: a write of more than 512 bytes in parts (own; page of write)"
+# What is told of a history that only writes explain that end in EPIPE, and its reason.
+WITH_EPIPE = "where a write that has moved a part is EPIPE without a reader"
+BY_EPIPE = "reason: EPIPE of a write that has moved a part (own; page of write)"
 # What is told of a history in which the writing end of a pipe has the lower number.
 TURNED = "where the ends of a pipe change places, by dup2 and close"
 BY_TURN = "reason: which end of a pipe has the lower number (own; page of pipe)"
@@ -95,7 +100,9 @@ class Chosen(NamedTuple):
     told: str
 
 
-Answer = Result | ByRoom | ByParts | Chosen
+Answer = Result | ByRoom | ByParts | ByEpipe | Chosen
+# What is told of the histories that only parts, or such writes, explain, and the reasons.
+TOLD: dict[type, tuple[str, str]] = {ByParts: (IN_PARTS, BY_PARTS), ByEpipe: (WITH_EPIPE, BY_EPIPE)}
 
 
 class Orders:
@@ -108,7 +115,7 @@ class Orders:
         # whether it is known how many bytes a pipe of the system holds
         self.has_room = isinstance(args.limits, ChosenLimits)
         self.known: dict[tuple[object, ...], tuple[int, Answer]] = {}
-        self.counts = {Explained: 0, Unexplained: 0, GivenUp: 0, ByRoom: 0, ByParts: 0, Chosen: 0}
+        self.counts = {Explained: 0, Unexplained: 0, GivenUp: 0, ByRoom: 0, ByParts: 0, ByEpipe: 0, Chosen: 0}
 
     def answer(self, number: int, history: Sequence[Noted]) -> None:
         """Answers for a history, and prints what is to be told of it."""
@@ -126,7 +133,7 @@ class Orders:
             told = self.unordered(history, result) if is_new else f"as history {first}\n"
         if exchanged and is_new:
             told += (NOT_BY_TURN if isinstance(result, Unexplained) else BY_TURN) + "\n"
-        if not (self.args.quiet and (isinstance(result, Explained | ByRoom | ByParts | Chosen) or not is_new)):
+        if not (self.args.quiet and (isinstance(result, Explained | ByRoom | ByParts | ByEpipe | Chosen) or not is_new)):
             print(("" if self.is_one else f"history {number}: ") + told, end="", flush=True)
 
     def found_turned(self, history: Sequence[Noted]) -> Answer:
@@ -145,8 +152,9 @@ class Orders:
         if not isinstance(result, Unexplained):
             return result
         rooms = (self.args.limits,) if self.has_room else (self.args.limits, ROOMY)
-        found = None if self.has_room else by_room(history, *most)
-        return found or by_parts(history, *most, *rooms) or self.unexplained(history)
+        found: Answer | None = None if self.has_room else by_room(history, *most)
+        found = found or by_parts(history, *most, *rooms) or by_epipe(history, *most, *rooms)
+        return found or self.unexplained(history)
 
     def unexplained(self, history: Sequence[Noted]) -> Result | Chosen:
         """Why no order explains a history."""
@@ -230,10 +238,10 @@ class Orders:
             lines = verified(self.program, history, result.steps, ROOMY)
             told = [f"an order explains it {WHERE_ROOMY}"]
             return "\n".join([*told, *map(moved_line, lines), BY_ROOM, ""])
-        if isinstance(result, ByParts):
+        if isinstance(result, ByParts | ByEpipe):
             lines = verified(self.program, result.history, result.steps, result.limits)
-            told = [f"an order explains it {IN_PARTS}"]
-            return "\n".join([*told, *map(moved_line, lines), BY_PARTS, ""])
+            where, reason = TOLD[type(result)]
+            return "\n".join([f"an order explains it {where}", *map(moved_line, lines), reason, ""])
         if not isinstance(result, Unexplained):
             return f"given up after {several(result.states, 'state')}\n" if isinstance(result, GivenUp) else ""
         parts = ["no order explains it, nor this part of it:", indented(result.shrunk)]
@@ -242,10 +250,11 @@ class Orders:
 
     def totals(self) -> str:
         """The last line."""
-        explained, unexplained, given_up, roomy, parted, chosen = self.counts.values()
+        explained, unexplained, given_up, roomy, parted, broken, chosen = self.counts.values()
         text = f"histories {sum(self.counts.values())} explained {explained} unexplained {unexplained} "
         text += f"given up {given_up}" + (f" room of a pipe {roomy}" if roomy else "")
         text += f" writes in parts {parted}" if parted else ""
+        text += f" EPIPE after a part {broken}" if broken else ""
         return text + (f" other choices {chosen}" if chosen else "")
 
     def status(self) -> int:

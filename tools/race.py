@@ -175,6 +175,15 @@ class PartsReason(Reason):
         return ordering.by_parts(race.history, STATES_MOST, SEARCH_SECONDS, *rooms) is not None
 
 
+class EpipeReason(Reason):
+    """The reason that a large write ends in EPIPE though it has moved a part: an order explains all with that."""
+
+    def fits(self, race: Race) -> bool:
+        """Whether an order explains a history with such writes, also where pipes are larger, if that may be."""
+        rooms = [race.limits] if isinstance(race.limits, ChosenLimits) else [race.limits, ordering.ROOMY]
+        return ordering.by_epipe(race.history, STATES_MOST, SEARCH_SECONDS, *rooms) is not None
+
+
 class LinkReason(Reason):
     """The reason that a link is made in two halves: an order explains all where another call may come between."""
 
@@ -238,6 +247,7 @@ REASONS = [
     Reason("both at once", "XSH 2.9.7", is_either),
     RoomReason("room of a pipe (own)", "page of write", is_never),
     PartsReason("a write of more than 512 bytes in parts (own)", "page of write", is_never),
+    EpipeReason("EPIPE of a write that has moved a part (own)", "page of write", is_never),
 ]
 
 

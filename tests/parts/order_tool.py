@@ -591,6 +591,21 @@ NOT_IN_PARTS = [
 ]
 
 
+# A write that has moved a part when the last reader goes, and is EPIPE; the nearest that are wrong: a reader is left,
+# what it moved is lost, it goes in at once or not at all, it is not to wait, and another error.
+LONE = f"{TWO}8 9 p0 close 0 = ok\n10 11 p1 close 1 = ok\n"
+BROKEN = f"{LONE}20 90 p0 write 1 61*3000 = error EPIPE\n30 40 p1 read 0 600 = 61*600\n50 60 p1 close 0 = ok\n"
+BY_EPIPE = "reason: EPIPE of a write that has moved a part (own; page of write)"
+NOT_BROKEN = [
+    BROKEN.replace("50 60 p1 close 0", "50 60 p1 getfl 0").replace("getfl 0 = ok", "getfl 0 = 1"),
+    BROKEN.replace("= 61*600\n", "= 62*600\n"),
+    BROKEN.replace("61*3000", "61*512").replace("61*600", "61*512"),
+    BROKEN.replace("20 90", "12 13 p0 setfl 1 -,nonblock = ok\n20 90").replace("61*3000", "61*1000"),
+    BROKEN.replace("error EPIPE", "error EIO"),
+    BROKEN.replace("error EPIPE", "error EPIPE\n95 96 p0 write 1 x61 = 1"),
+]
+
+
 # Small writes that are torn: for want of room in fdref's pipes, too, which is not what is wrong.
 TORN_SMALL = f"{THREE}12 13 p0 write 1 63*100 = 100\n20 40 p0 write 1 61*512 = 512\n20 40 p1 write 1 62*512 = 512\n"
 TORN_SMALL += f"50 51 p2 read 0 400 = x{'63' * 100}{'61' * 300}\n52 53 p2 read 0 512 = 62*512\n"
@@ -603,6 +618,11 @@ def part_cases(program: str) -> Iterator[Case]:
         yield f"in parts: {text}", partial(ends_with, program, text, 0, end)
     for text in NOT_IN_PARTS:
         yield f"in no parts: {text}", partial(fails, program, text, 1, "no order explains it")
+    yield "EPIPE of a part", partial(ends_with, program, BROKEN, 0, f"  p0 resume = 1024\n{BY_EPIPE}")
+    for text in NOT_BROKEN:
+        yield f"no EPIPE of a part: {text}", partial(fails, program, text, 1, "no order explains it")
+    counted = "histories 2 explained 1 unexplained 0 given up 0 EPIPE after a part 1"
+    yield "EPIPE of a part, counted", partial(ends_with, program, f"{BROKEN}\n{GOOD}", 0, counted)
     yield "torn, and out of room", partial(ends_with, program, TORN_SMALL, 1, NOT_BY_ROOM)
     counted = "histories 2 explained 1 unexplained 0 given up 0 writes in parts 1"
     yield "in parts, counted", partial(ends_with, program, f"{IN_PARTS[1][0]}\n{GOOD}", 0, counted)

@@ -11,10 +11,10 @@ from collections.abc import Sequence
 from typing import NamedTuple
 
 from support.footprints import Footprints
-from support.histories import WAITS, Noted
+from support.histories import UNKNOWN, WAITS, Noted
 from support.late_links import late_links
 from support.pieces import are_of_pipes, in_parts
-from support.plain_model import DEFAULTS, PIPE_CAPACITY_MOST, Limits
+from support.plain_model import DEFAULTS, PIPE_BUF, PIPE_CAPACITY_MOST, Limits
 from support.searching import Search, Step, TooLong
 from support.shortening import Shortening
 
@@ -46,6 +46,15 @@ class ByRoom(NamedTuple):
 class ByParts(NamedTuple):
     """A history that an order explains only where writes of more than PIPE_BUF bytes to a pipe go in by parts: the
     history of these parts, the steps of that order, and the limits of its run."""
+
+    history: list[Noted]
+    steps: list[Step]
+    limits: Limits
+
+
+class ByEpipe(NamedTuple):
+    """A history that an order explains only where a write to a pipe ends in EPIPE though it has moved a part: the
+    history without the answers of such writes, the steps of that order, and the limits of its run."""
 
     history: list[Noted]
     steps: list[Step]
@@ -113,6 +122,32 @@ def by_parts(
         if isinstance(result, Explained) and are_of_pipes(history, result.steps, one):
             return ByParts(parted or [], result.steps, one)
     return None
+
+
+def by_epipe(
+    history: Sequence[Noted], states_most: int = STATES_MOST, seconds: float = SECONDS, *limits: Limits
+) -> ByEpipe | None:
+    """An order of a history that explains it where large writes to a pipe without a reader are EPIPE, whatever they
+    have moved, if there is one, in a run of the first of these limits that has one."""
+    told = sorted(history, key=lambda noted: noted.start)
+    ordered = list(map(without_epipe, told))
+    broken = [noted for noted, other in zip(ordered, told, strict=True) if noted is not other]
+    for one in limits if broken else ():
+        try:
+            search = Search(ordered, one, states_most, seconds)
+            search.let_break(broken)
+            steps = search.order()
+        except TooLong:
+            continue
+        if steps is not None:
+            return ByEpipe(ordered, steps, one)
+    return None
+
+
+def without_epipe(noted: Noted) -> Noted:
+    """A call without its answer, where that is EPIPE of a write that may go in by parts."""
+    is_large = noted.act.word == "write" and len(noted.act.fields[1]) > PIPE_BUF
+    return noted._replace(outcome=UNKNOWN) if is_large and noted.outcome == "error EPIPE" else noted
 
 
 def by_late_links(history: Sequence[Noted], states_most: int = STATES_MOST, seconds: float = SECONDS) -> bool:

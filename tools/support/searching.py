@@ -90,14 +90,23 @@ class Call:
         self.words = self.outcome.split(" ") if self.outcome.startswith("regular ") and UNKNOWN in self.outcome else []
         self.is_optional = not self.has_ended and noted.outcome == UNKNOWN
         self.resume = plain_model.Act(noted.process, "resume")
+        # whether it is a write that may end in EPIPE though it has moved a part, where the model gives the part
+        self.may_break = False
 
     def can_give(self, outcome: str) -> bool:
         """Whether the call may end with this outcome."""
+        if self.may_break:
+            return outcome == "error EPIPE"
         if self.words:
             given = outcome.split(" ")
             both = zip(self.words, given, strict=False)
             return len(given) == len(self.words) and all(word in (UNKNOWN, other) for word, other in both)
         return not self.is_known or outcome == self.outcome
+
+    def can_end(self, outcome: str) -> bool:
+        """Whether the call may end with this outcome after it has waited: a write that gives a part has no reader."""
+        is_part = self.may_break and outcome.isdigit() and 0 < int(outcome) < len(self.act.fields[1])
+        return is_part or self.can_give(outcome)
 
 
 def is_made_by(noted: Noted) -> bool:
@@ -132,6 +141,11 @@ class Search:
         self.calls = [[call for call in calls if call.noted.process == process] for process in self.processes]
         self.wanted = sum(call.bit for call in calls if not call.is_optional)
         self.seen: set[tuple[int, int]] = set()
+
+    def let_break(self, writes: Sequence[Noted]) -> None:
+        """Lets these writes, whose answers are not known, end in EPIPE though they have moved a part."""
+        for call in (call for calls in self.calls for call in calls):
+            call.may_break = any(call.noted is noted for noted in writes)
 
     def order(self) -> list[Step] | None:
         """The steps of an order, or None where there is none."""
@@ -197,7 +211,7 @@ class Search:
     def resumed(self, place: Place, call: Call) -> Iterator[tuple[Step, Place]]:
         """The next try of a call that waits."""
         outcome, state = self.states.after(place.state, call.resume)
-        if outcome is not None and (outcome.startswith("part ") or call.can_give(outcome)):
+        if outcome is not None and (outcome.startswith("part ") or call.can_end(outcome)):
             after = place._replace(state=state)
             if self.is_foretold(call, after):
                 yield Step(call.resume, outcome), after
