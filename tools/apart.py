@@ -20,8 +20,8 @@ from support.runs import Line, Settled, line_of
 from support.searching import FOREVER, Step
 
 from compare_instead import Appending, ways
-from compare_reasons import APPENDED, Difference, Reason, appended_to, follows_append, is_paged_room, is_room
-from compare_reasons import reason_of
+from compare_reasons import APPENDED, Difference, Fillings, Reason, appended_to, follows_append, is_paged_room
+from compare_reasons import is_room, reason_of
 from compare_runs import act_of, together
 
 # How a reason is looked for.
@@ -31,6 +31,10 @@ Why = Callable[[Difference], Reason | None]
 # The acts that the model is given instead of some calls, by their places.
 Instead = Mapping[int, Sequence[Act]]
 NOTHING: Instead = MappingProxyType({})
+
+
+# The places of the calls that the model answers otherwise, and whether what comes after each can be compared.
+Known = Mapping[int, bool]
 
 
 class Apart(NamedTuple):
@@ -101,6 +105,7 @@ class Beside:
         self.run = Settled(limits)
         self.run.world = world(limits)
         self.answers: list[str] = []
+        self.fillings = Fillings()
         # the pwrites under append, by their places
         self.appends: list[int] = []
         # how many bytes each pipe was seen to hold
@@ -122,7 +127,7 @@ class Beside:
         seen = len(self.run.lines)
         for act in acts:
             self.see_append(act)
-            self.run.take(act)
+            self.fillings.take(self.run, act)
         lines = list(map(read_line, self.run.lines[seen:]))
         if lines and is_waiting(lines[-1].outcome):
             self.waiting[noted.process] = len(self.answers)
@@ -140,7 +145,7 @@ class Beside:
         process = self.run.world.processes.get(noted.process)
         at = process.table.get(noted.act.fields[0]) if process and noted.act.word == "write" else None
         self.see_append(noted.act)
-        self.run.take(noted.act)
+        self.fillings.take(self.run, noted.act)
         if at and at.pipe and noted.outcome == str(len(noted.act.fields[1])):
             self.held[at.pipe] = max(self.held.get(at.pipe, 0), len(at.pipe.data))
         first, *resumes = map(read_line, self.run.lines[seen:])
@@ -180,12 +185,12 @@ def is_given(noted: Noted, answer: str) -> bool:
 def differences(history: Sequence[Noted], limits: Limits, why: Why = reason_of) -> Iterator[Apart]:
     """The calls, in this order, that the model answers otherwise. Where a reason says what such a call has to have
     done, the model is given that instead, so that what comes after it is compared."""
-    known: set[int] = set()
+    known: dict[int, bool] = {}
     instead: dict[int, Sequence[Act]] = {}
     answers = Beside(history, limits).answers
     for place in range(len(history)):
         if not is_given(history[place], answers[place]):
-            known.add(place)
+            known[place] = False
             it, difference = apart_at(history, place, answers[place], limits, known, why, instead)
             for at, acts in ways(difference) if it.reason is not APPENDED and not it.is_settled else ():
                 tried = Beside(history, limits, instead={**instead, at: acts})
@@ -193,6 +198,7 @@ def differences(history: Sequence[Noted], limits: Limits, why: Why = reason_of) 
                     instead[at] = acts
                     answers, it = tried.answers, it._replace(is_settled=True)
                     break
+            known[place] = it.is_settled
             yield it._replace(instead=dict(instead))
 
 
@@ -201,7 +207,7 @@ def apart_at(
     place: int,
     answer: str,
     limits: Limits,
-    known: set[int],
+    known: Known,
     why: Why = reason_of,
     instead: Instead = NOTHING,
 ) -> tuple[Apart, Difference]:
@@ -211,21 +217,26 @@ def apart_at(
     difference = Difference(place, lines, lines[place], lines[place]._replace(outcome=answer), beside.run.world)
     difference.room_seen = beside.held.get(difference.at.pipe, 0) if difference.at and difference.at.pipe else 0
     difference.has_same_room = isinstance(limits, ChosenLimits)
+    if is_one_by_one(history) and all(known[at] for at in known if at != place):
+        difference.put = dict(beside.fillings.put)
+        # how many pages there are is known where it is said
+        difference.pages = dict(beside.fillings.pages) if difference.has_same_room else None
     reason = why(difference)
     # what the fstat after such a pwrite tells has to follow from all of them
     if reason is None or (reason is APPENDED and follows_append(difference)):
-        reason = APPENDED if is_by_append(history, place, limits, known - {place}, instead) else None
+        reason = APPENDED if is_by_append(history, place, limits, known, instead) else None
     difference.reason = reason
     return Apart(place, history[place], answer, limits, reason, difference.is_settled(), NOTHING), difference
 
 
-def is_by_append(history: Sequence[Noted], place: int, limits: Limits, known: set[int], instead: Instead) -> bool:
+def is_by_append(history: Sequence[Noted], place: int, limits: Limits, known: Known, instead: Instead) -> bool:
     """Whether the calls up to one give what was noted, but for the known ones, where a pwrite under append before them
     writes at the end. What comes after them is there too: it may wake one that waits."""
     appending = Beside(history, limits, Appending, instead)
     answers = appending.answers[: place + 1]
     has_appended = any(at < place for at in appending.appends)
-    return has_appended and all(at in known or is_given(history[at], answers[at]) for at in range(place + 1))
+    asked = [at for at in range(place + 1) if at == place or at not in known]
+    return has_appended and all(is_given(history[at], answers[at]) for at in asked)
 
 
 def parted(history: Sequence[Noted], limits: Limits, why: Why = reason_of) -> list[Apart]:

@@ -54,8 +54,8 @@ from support.texts import several
 from compare_instead import ways
 from compare_limits import FEWER
 from compare_lines import SECONDS, Asked, first_unfit, in_other_order, is_at_once, moved
-from compare_reasons import OWN, REASONS, TOO_MANY_LINKS, Difference, Reason, appended_to, follows_append
-from compare_reasons import is_more_links, is_room, pages_of, process_of, reason_of, room_left, told_reason
+from compare_reasons import OWN, REASONS, TOO_MANY_LINKS, Difference, Fillings, Reason, appended_to
+from compare_reasons import follows_append, is_more_links, is_room, process_of, reason_of, room_left, told_reason
 from compare_runs import Known, act_of, ends_of_closing, is_told_back, places_of_script, together
 from compare_walks import CLASSES, MANY_LINKS, class_of, random_lines, with_marks
 from waits import Long
@@ -104,17 +104,7 @@ class Beside:
         self.sizes: dict[int, int] = {}
         # the writes in which processes waited that have ended
         self.ended: list[plain_model.WaitingWrite] = []
-        # how many pages what was put into each pipe since it was empty takes at most
-        self.pages: dict[plain_model.Pipe, int] = {}
-
-    def take(self, act: plain_model.Act) -> None:
-        """Takes an act, and counts pages."""
-        live = self.run.world.processes.values()
-        held = {at.pipe: len(at.pipe.data) for process in live for at in process.table.values() if at.pipe}
-        self.run.take(act)
-        for pipe, before in held.items():
-            more = max(len(pipe.data) - before, 0)
-            self.pages[pipe] = self.pages.get(pipe, 0) + pages_of(more) if pipe.data else 0
+        self.fillings = Fillings()
 
     def world_before(self, place: int) -> plain_model.World:
         """The world before a line, which is none of those that were asked for already."""
@@ -127,7 +117,7 @@ class Beside:
                 call = process.waits if process and act.word == "exit" else None
                 self.ended += [call] if isinstance(call, plain_model.WaitingWrite) else []
                 for text in self.known.given(self.lines, at):
-                    self.take(plain_model.read_act(text.encode()))
+                    self.fillings.take(self.run, plain_model.read_act(text.encode()))
         self.place = place
         return self.run.world
 
@@ -187,7 +177,8 @@ def difference_at(asked: Asked, beside: Beside, fdref: list[Line], place: int) -
     system = beside.lines
     difference = Difference(place, system, system[place], fdref[place], beside.world_before(place))
     difference.has_same_room, difference.counts_bytes = asked.has_same_room, asked.counts_bytes
-    difference.room_seen, difference.pages = asked.room_seen, dict(beside.pages)
+    difference.room_seen = asked.room_seen
+    difference.pages, difference.put = dict(beside.fillings.pages), dict(beside.fillings.put)
     difference.size_before, difference.ended = beside.sizes.get(place - 1), beside.ended
     difference.for_fdref = {at: beside.known.given(system, at) for at in beside.known.instead}
     difference.is_of_model = beside.known.is_of_model()

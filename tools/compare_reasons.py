@@ -51,6 +51,8 @@ class Difference:
         self.room_seen = 0
         # how many pages what was put into each pipe since it was empty takes at most, where that is known
         self.pages: dict[plain_model.Pipe, int] | None = None
+        # and how many bytes that was
+        self.put: dict[plain_model.Pipe, int] | None = None
         # whether it is a pipe whose ends have changed places since
         self.is_exchanged = False
         # how long the file was before the pwrite under append that it follows, if that is known
@@ -325,8 +327,11 @@ def put_before_read(it: Difference, pipe: plain_model.Pipe) -> int:
 def most_after(it: Difference) -> int:
     """How many bytes may still go into a pipe before the next read, where the system had no room for all of a write:
     none where it put in what fits, and fewer than were asked for where that was nothing. A page that is not full may
-    take more of another write."""
+    take more of another write, but where a large one fits into it too."""
+    assert it.at and it.at.pipe
     whole, is_part = it.count(), it.system.isdigit()
+    if it.system == "error EAGAIN" and whole > PIPE_BUF and it.put is not None:
+        is_part = whole + it.put.get(it.at.pipe, 0) <= PAGE
     if is_part:
         return 0 if it.counts_bytes or whole <= PAGE else PAGE - 1
     return whole - 1 if it.counts_bytes else min(whole, PAGE) - 1
@@ -358,12 +363,34 @@ def pages_of(count: int) -> int:
     return -(-count // PAGE)
 
 
+class Fillings:
+    """What was put into each pipe since it was empty: how many pages that takes at most, and how many bytes it is."""
+
+    def __init__(self) -> None:
+        self.pages: dict[plain_model.Pipe, int] = {}
+        self.put: dict[plain_model.Pipe, int] = {}
+
+    def take(self, run: plain_model.Run, act: plain_model.Act) -> None:
+        """Lets an act take place in a run, and counts. Where calls go on because of it, it is not known how much they
+        have put into a pipe, which may be as much as it holds."""
+        live = run.world.processes.values()
+        held = {at.pipe: len(at.pipe.data) for process in live for at in process.table.values() if at.pipe}
+        count = len(run.lines)
+        run.take(act)
+        has_more = len(run.lines) > count + 1
+        for pipe, before in held.items():
+            more = pipe.capacity if has_more else max(len(pipe.data) - before, 0)
+            self.pages[pipe] = self.pages.get(pipe, 0) + pages_of(more) if pipe.data else 0
+            self.put[pipe] = self.put.get(pipe, 0) + more if pipe.data else 0
+
+
 def has_free_pages(it: Difference, pipe: plain_model.Pipe) -> bool:
     """Whether more of a write fits into the pages that a pipe has free in any case than went in on the system."""
     if it.pages is None:
         return False
     free = pipe.capacity - PAGE * it.pages.get(pipe, 0)
-    return it.count() <= free or (it.system.isdigit() and int(it.system) < free)
+    # one that is refused has moved nothing; where one waits it is not seen how much it has
+    return it.count() <= free or (it.system != "parked ?" and moved(it.system) < free)
 
 
 def is_paged_room(it: Difference) -> bool:

@@ -302,6 +302,9 @@ CONTRADICTED += [
     (HELD_NONBLOCK, "20 21 p0 write 1 61*600 = 1", "24", AGAIN),
     (HELD_NONBLOCK, "20 21 p0 write 1 61*600 = 1", "24", "22 23 p0 dup2 1 2 = 2\n24 25 p0 write 2 x61 = 1"),
     (HELD_NONBLOCK, "20 21 p0 write 1 61*20 = error EAGAIN", "20", "22 23 p0 write 1 61*20 = 20"),
+    # a large write takes what there is
+    (HELD_100, "20 21 p0 write 1 61*600 = error EAGAIN", "600", "22 23 p0 write 1 61*500 = 500"),
+    (HELD_100, "20 21 p0 write 1 61*600 = error EAGAIN", "600", "22 23 p0 write 1 x61 = 1"),
 ]
 # The nearest that it does not contradict, and the reason.
 CONSISTENT = [
@@ -316,6 +319,15 @@ WHERE_ROOMY = "where a pipe has room for 65,536 bytes"
 CONSISTENT += [
     (HELD_NONBLOCK, "20 21 p0 write 1 61*600 = 1", f"600, {WHERE_ROOMY}", ROOM, f"21 21 p0 read 0 1 = x61\n{AGAIN}"),
     (HELD_NONBLOCK, "20 21 p0 write 1 61*20 = error EAGAIN", f"20, {WHERE_ROOMY}", ROOM, "22 23 p0 write 1 61*19 = 19"),
+    # nothing more goes in, or only what fits into a page that has been filled further
+    (HELD_100, "20 21 p0 write 1 61*600 = error EAGAIN", f"600, {WHERE_ROOMY}", ROOM, "22 23 p0 read 0 100 = 61*100"),
+    (
+        HELD_100 + "10 10 p0 write 1 61*400 = 400\n10 10 p0 read 0 400 = 61*400\n" * 9,
+        "20 21 p0 write 1 61*600 = error EAGAIN",
+        f"600, {WHERE_ROOMY}",
+        ROOM,
+        "22 23 p0 write 1 61*300 = 300",
+    ),
 ]
 # Writes of more bytes than a call of the profile moves, to a pipe: what no room explains.
 MANY_BYTES = [
@@ -649,6 +661,13 @@ def capacity_cases(program: str) -> Iterator[Case]:
     least = ROOMY.replace("= 600\n70", "= 600\n60 65 p0 read 0 1 = x61\n70")
     yield "a pipe that has room then", partial(ends_with, program, least, 0, "4 p0 write 1 61*600 = 600", *known)
     yield "a pipe of 511 bytes", partial(fails, program, ROOMY, 2, "from 512 to 65536", "--pipe-capacity", "511")
+    free = f"{HELD_100}20 21 p0 write 1 62*65500 = error EAGAIN\n"
+    blamed = "fdref answers 65436\npage of write: a pipe or FIFO"
+    yield "fifteen pages that are free", partial(ends_with, program, free, 1, blamed, "--pipe-capacity", "65536")
+    full = f"{HELD_NONBLOCK}" + "".join(f"{at} {at} p0 write 1 61*3100 = 3100\n" for at in range(8, 23))
+    full += "40 41 p0 write 1 62*5000 = error EAGAIN\n"
+    paged = "fdref answers 5000\nreason: room of a pipe that is counted in pages (own; page of write)"
+    yield "no page that is free", partial(ends_with, program, full, 0, paged, "--pipe-capacity", "65536")
     page = f"{PIPED}4 5 p0 fork = 1\n6 7 p1 attach = ok\n8 9 p0 setfl 1 -,nonblock = ok\n"
     page += "10 11 p0 write 1 61*9000 = 4096\n12 20 p0 write 1 x61 = error EAGAIN\n"
     page += "15 18 p1 write 1 x61 = error EAGAIN\n"
