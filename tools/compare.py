@@ -518,6 +518,7 @@ def check_all(args: argparse.Namespace, totals: Totals, driver: str) -> None:
     """Compares all scripts that are asked for."""
     name = clipped(args.ask, NAME_MOST) if args.ask else "ask_kernel"
     asked = Asked(args.command, shlex.split(driver), args.limits, args.text, name, args.seconds)
+    print("".join(f"{line}\n" for line in asked.told_rooms()), end="", flush=True)
     for name, lines in args.scripts:
         check_one(asked, totals, name, lines, False, args.keep)
     for number in range(args.first, args.first + args.random):

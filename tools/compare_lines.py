@@ -99,18 +99,19 @@ class Asked:
         self.late: set[str] = set()
         self.limits = limits
         self.is_text = is_text
-        self.all_room = self.room()
-        self.has_same_room = self.all_room == limits.capacity
-        self.counts_bytes = self.room(3_000, 3_000) == self.all_room
+        self.all_rooms = self.rooms()
+        self.all_room = min(self.all_rooms)
+        self.has_same_room = set(self.all_rooms) == {limits.capacity}
+        self.counts_bytes = self.rooms(3_000, 3_000) == self.all_rooms
         self.room_seen = self.all_room if self.counts_bytes else max(self.all_room // 2 - PAGE, 0)
         self.pipe_buf = self.most_at_once() if self.has_same_room and self.counts_bytes else PIPE_BUF
 
     def with_room(self) -> "Asked | None":
         """The same, where pipes of fdref hold as many bytes as those of the system; or None where they do, or cannot,
-        or where these have neither bytes nor whole pages."""
+        or where these have neither bytes nor whole pages, or FIFOs have other room."""
         can_have = PIPE_CAPACITY_LEAST <= self.all_room <= PIPE_CAPACITY_MOST
         is_known = self.counts_bytes or self.all_room % PAGE == 0
-        if self.has_same_room or not can_have or not is_known:
+        if self.has_same_room or self.told_rooms() or not can_have or not is_known:
             return None
         other = copy.copy(self)
         other.limits = self.limits._replace(capacity=self.all_room)
@@ -135,12 +136,31 @@ class Asked:
 
     def fifo(self, calls: list[bytes]) -> list[str]:
         """What these calls give on an empty FIFO of the system, of which 0 and 1 are the two ends, under nonblock."""
-        lines = [b"join", b"p0 mkfifo f", b"p0 open f r,nonblock", b"p0 open f w,nonblock", *calls]
-        return [line.outcome for line in self.system(lines)[4:-1]]
+        return self.given([b"p0 mkfifo f", b"p0 open f r,nonblock", b"p0 open f w,nonblock"], calls)
 
-    def room(self, *sizes: int) -> int:
-        """How many bytes go into an empty pipe of the system by writes of these sizes and two of 65,536."""
-        return sum(map(moved, self.fifo([b"p0 write 1 61*%d" % size for size in (*sizes, TRANSFER_MAX, TRANSFER_MAX)])))
+    def given(self, before: list[bytes], calls: list[bytes]) -> list[str]:
+        """What these calls of a process give after others."""
+        lines = self.system([b"join", *before, *calls])
+        return [line.outcome for line in lines[len(before) + 1 : -1]]
+
+    def rooms(self, *sizes: int) -> tuple[int, int]:
+        """How many bytes go into an empty FIFO of the system, and into an empty pipe, by writes of these sizes and two
+        of 65,536. Which end of a pipe has the lower number is not known; where none is made it is as the FIFO."""
+        all_sizes = (*sizes, TRANSFER_MAX, TRANSFER_MAX)
+        ends = [b"p0 pipe", b"p0 setfl 0 -,nonblock", b"p0 setfl 1 -,nonblock"]
+        writes = [[b"p0 write %d 61*%d" % (fd, size) for size in all_sizes] for fd in (1, 0)]
+        of_fifo = sum(map(moved, self.fifo(writes[0])))
+        try:
+            of_pipe = sum(map(moved, self.given(ends, [*writes[0], *writes[1]])))
+        except CannotRun:
+            of_pipe = 0
+        return of_fifo, of_pipe or of_fifo
+
+    def told_rooms(self) -> list[str]:
+        """What is told where FIFOs have other room than pipes."""
+        of_fifo, of_pipe = self.all_rooms
+        told = f"how much room there is is not compared: a FIFO has room for {of_fifo:,} bytes, a pipe for {of_pipe:,}"
+        return [told] if of_fifo != of_pipe else []
 
     def most_at_once(self) -> int:
         """PIPE_BUF of the system, whose pipes have the room of fdref's: the largest write that is refused where there

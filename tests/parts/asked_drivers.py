@@ -348,6 +348,7 @@ REFUSED = "join\np0 pipe\np0 setfl 1 -,nonblock\n{}p0 write 1 62*5000\n{}p0 writ
 TORN = "join\np0 pipe\np0 setfl 1 -,nonblock\np0 write 1 61*65300\np0 write 1 62*300\n"
 # 40,000 bytes that take sixteen pages, and ten.
 MANY_PAGES, FEW_PAGES = "p0 write 1 61*2500\n" * 16, "p0 write 1 61*40000\n"
+LARGE_BESIDE = "join\np0 pipe\np0 setfl 1 -,nonblock\np0 write 1 61*{}\np0 write 1 62*65500\n"
 PAGED = ["--pipe-capacity", "65536"]
 LESS = [
     ("writes-one-byte", ONE_BYTE.format(100), [], "p0 write 1 62*600 = 1", ""),
@@ -357,8 +358,12 @@ LESS = [
     ("has-pages", REFUSED.format(FEW_PAGES, "p0 read 0 1\n"), [], "p0 write 1 62*5000 = error EAGAIN", ""),
     ("tears-beside-pages", REFUSED.format(FEW_PAGES, "p0 read 0 1\n"), [], "p0 write 1 62*5000 = 4096", ""),
     ("tears-beside-pages", TORN, [], "p0 write 1 62*300 = 236", ""),
+    ("refuses-beside-pages", LARGE_BESIDE.format(100), PAGED, "p0 write 1 62*65500 = error EAGAIN", ""),
 ]
-NOT_LESS = ("has-pages", REFUSED.format(MANY_PAGES, "p0 read 0 1\n"), PAGED)
+NOT_LESS = [
+    ("has-pages", REFUSED.format(MANY_PAGES, "p0 read 0 1\n"), PAGED),
+    ("refuses-beside-pages", LARGE_BESIDE.format(61_441), PAGED),
+]
 
 
 def less_is_seen(
@@ -394,6 +399,23 @@ def filled_pages_fit(program: str, folder: str) -> None:
     done = compared(program, folder, "has-two-pages", TWO_PAGES, words, end=f" | {READS_OTHER}")
     wrong = b" p0 read 0 30000 = 62*8192\nfdref:  5 p0 read 0 30000 = 61*8192\nreason: none\n"
     require(done.status == 1 and wrong in done.stdout, done.said())
+
+
+# A large write to a pipe of a system whose FIFOs have more room.
+SMALL_PIPE = "join\np0 pipe\np0 setfl 1 -,nonblock\np0 write 1 61*8000\np0 read 0 65536\n"
+WRITES_LESS = "sed 's/^\\([0-9]* p0 write 1 61\\*8000\\) = 4096$/\\1 = 511/'"
+TWO_ROOMS = b"how much room there is is not compared: a FIFO has room for 65,536 bytes, a pipe for 4,096\n"
+
+
+def rooms_are_told(program: str, folder: str) -> None:
+    """Where pipes have other room than FIFOs that is told, and is a reason; what no room explains is none."""
+    for words in ([], ["--pipe-capacity", "4096"], ["--pipe-capacity", "65536"]):
+        done = compared(program, folder, "has-smaller-pipes-than-fifos", SMALL_PIPE, words)
+        require(done.status == 0 and done.stdout.startswith(TWO_ROOMS), done.said())
+        done = compared(program, folder, "has-smaller-pipes-than-fifos", SMALL_PIPE, words, end=f" | {WRITES_LESS}")
+        require(done.status == 1 and b" p0 write 1 61*8000 = 511\n" in done.stdout, done.said())
+    done = compared(program, folder, "has-smaller-pipes", SMALL_PIPE)
+    require(done.status == 0 and b"how much room" not in done.stdout, done.said())
 
 
 # ---- a larger PIPE_BUF
@@ -571,8 +593,10 @@ def cases(program: str, folder: str) -> Iterator[Case]:
         yield way, partial(less_is_told, program, folder, way, script)
     for less in LESS:
         yield f"{less[0]} {less[1]!r}", partial(less_is_seen, program, folder, *less)
+    yield "has-smaller-pipes-than-fifos", partial(rooms_are_told, program, folder)
     yield "has-two-pages", partial(filled_pages_fit, program, folder)
-    yield "has-pages, and a read", partial(pages_are_a_reason, program, folder, *NOT_LESS)
+    for paged in NOT_LESS:
+        yield f"{paged[0]} {paged[1]!r}, by pages", partial(pages_are_a_reason, program, folder, *paged)
     for beside in BESIDE:
         yield f"waits-beside-room {beside[0]!r}", partial(beside_is_told, program, folder, *beside)
     for way in ("larger-pipe-buf", "larger-pipe-buf-unseen"):

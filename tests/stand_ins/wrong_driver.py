@@ -94,6 +94,8 @@ ROOMY = {
     "has-pages": plain_model.Limits(capacity=65_536),
     "tears-small-writes": plain_model.Limits(capacity=16_384),
     "has-two-pages": plain_model.Limits(capacity=8_192),
+    "has-smaller-pipes-than-fifos": plain_model.Limits(capacity=65_536),
+    "refuses-beside-pages": plain_model.Limits(capacity=65_536),
     "has-pages-once": plain_model.Limits(capacity=65_536),
     "tears-beside-pages": plain_model.Limits(capacity=65_536),
 }
@@ -389,6 +391,23 @@ def paged_and_torn(
     return paged_write(False)(world, process, at, data[:most] if at.nonblock else data)
 
 
+def refused_write(
+    world: plain_model.World, process: plain_model.Process, at: plain_model.Description, data: bytes
+) -> plain_model.Reply:
+    """A write to a pipe with pages of which one of 65,500 bytes is refused, whatever is free."""
+    plain_model.require(len(data) != 65_500, "EAGAIN")
+    return paged_write(False)(world, process, at, data)
+
+
+def smaller_pipe(world: plain_model.World, process: plain_model.Process) -> plain_model.Reply:
+    """A pipe of 4,096 bytes."""
+    ends = PIPE(world, process)
+    pipe = process.table[int(str(ends).split(" ")[0])].pipe
+    assert pipe
+    pipe.capacity = 4_096
+    return ends
+
+
 def paged_room(pipe: plain_model.Pipe) -> int:
     """How many bytes more go into a pipe with pages."""
     return max(pipe.capacity - len(pipe.data) - EMPTY.get(pipe, 0), 0)
@@ -436,6 +455,11 @@ OTHERWISE: dict[str, list[tuple[type, str, Callable[..., object]]]] = {
     "has-pages": [
         (plain_model.Pipe, "room", paged_room),
         (plain_model.World, "write_end", paged_write(False)),
+    ],
+    "has-smaller-pipes-than-fifos": [(plain_model.World, "pipe", smaller_pipe)],
+    "refuses-beside-pages": [
+        (plain_model.Pipe, "room", paged_room),
+        (plain_model.World, "write_end", refused_write),
     ],
     "has-two-pages": [
         (plain_model.Pipe, "room", paged_room),
