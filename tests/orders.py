@@ -28,7 +28,8 @@ import sys
 import tempfile
 from collections.abc import Sequence
 
-from parts import clocked_clients, lane_histories, order_tool, random_histories, told_histories, waiting_tool
+from parts import clocked_clients, history_lines, lane_histories, order_tool, random_histories, told_histories
+from parts import waiting_tool
 from parts.c_programs import builds
 from support.counting import Count
 from support.options import ONLY, PROGRAM, SEED, asked, count_option
@@ -47,7 +48,7 @@ def main(words: Sequence[str]) -> int:
     parts = [
         ("by hand", told_histories.cases(program)),
         ("short parts by hand", told_histories.short_cases()),
-        ("lines", order_tool.line_cases()),
+        ("lines", history_lines.cases()),
         ("tools/order.py", order_tool.cases(program)),
         ("tools/waiting.py", waiting_tool.cases(args.seed, TRACES)),
         ("random histories", random_histories.cases(program, args.seed, args.histories)),

@@ -111,6 +111,7 @@ APPEND = "pwrite under O_APPEND appends (the system departs) (page of write (pwr
 BARE = "no reason is known"
 APPENDING = "p0 open a rw,creat,append\np0 pwrite 2 0 x61\np0 pwrite 2 0 x62\n"
 APPENDED = f"{SETUP}10 11 p0 open a rw,creat,append = 2\n12 13 p0 pwrite 2 0 x61 = 1\n14 15 p0 pwrite 2 0 x62 = 1\n"
+NOT_WOKEN = ["20 - p0 read 0 4 = parked ?", "25 - p1 write 1 61*8000 = parked ?"]
 LONE, ALONE = "p0 close 0\np1 close 1\n", f"{SETUP}8 9 p0 close 0 = ok\n10 11 p1 close 1 = ok\n"
 BROKEN = ["20 90 p0 write 1 61*3000 = error EPIPE", "30 40 p1 read 0 600 = 61*600", "50 60 p1 close 0 = ok"]
 CHOICES = [
@@ -133,8 +134,8 @@ CHOICES = [
     (f"{ENDS}{LONE}", ALONE, BROKEN, 0, "EPIPE of a write that has moved a part (own) (page of write)"),
     (f"{ENDS}{LONE}", ALONE, [*BROKEN[:2], "50 60 p1 getfl 0 = 1"], 1, BARE),
     # a read that is not woken has nothing to do with appending
-    (ENDS, SETUP, ["20 - p0 read 0 4 = parked ?", "25 - p1 write 1 61*8000 = parked ?"], 1, BARE),
-    (f"{ENDS}{APPENDING}", APPENDED, ["20 - p0 read 0 4 = parked ?", "25 - p1 write 1 61*8000 = parked ?"], 1, BARE),
+    (ENDS, SETUP, NOT_WOKEN, 1, BARE),
+    (f"{ENDS}{APPENDING}", APPENDED, NOT_WOKEN, 1, BARE),
     (f"{ENDS}{APPENDING}", APPENDED, ["20 30 p0 pread 2 0 9 = x6162", "25 31 p1 getfl 0 = 1"], 0, APPEND),
 ]
 
