@@ -42,8 +42,11 @@ pub const FILE_SIZE_1: u64 = 1_048_576;
 /// Bytes of a write to a pipe that go in all at once or not at all (page of write, PIPE_BUF).
 pub const PIPE_BUF: usize = 512;
 
-/// Bytes that a pipe holds at most, where a run chooses no other number, and in a run whose trace is of version 1.
-pub const PIPE_CAPACITY: u64 = 1024;
+/// Bytes that a pipe holds at most, where a run chooses no other number.
+pub const PIPE_CAPACITY_DEFAULT: u64 = 1024;
+
+/// Bytes that a pipe holds at most in a run whose trace is of version 1.
+pub const PIPE_CAPACITY_1: u64 = 1024;
 
 /// The least capacity of pipes, in bytes, that a run may choose: a write of `PIPE_BUF` bytes fits into an empty pipe.
 pub const PIPE_CAPACITY_MIN: u64 = 512;
@@ -72,7 +75,8 @@ pub fn numbers_of_the_profile()
     ensures file_size_max { FILE_SIZE_MAX ≡ 2 ^ 40 }
     ensures file_size_1 { FILE_SIZE_1 ≡ 1048576 }
     ensures pipe_buf { PIPE_BUF ≡ 512 }
-    ensures pipe_capacity { PIPE_CAPACITY ≡ 1024 }
+    ensures pipe_capacity_default { PIPE_CAPACITY_DEFAULT ≡ 1024 }
+    ensures pipe_capacity_1 { PIPE_CAPACITY_1 ≡ 1024 }
     ensures pipe_capacity_min { PIPE_CAPACITY_MIN ≡ 512 }
     ensures pipe_capacity_max { PIPE_CAPACITY_MAX ≡ 65536 }
     ensures record_length_max { RECORD_LENGTH_MAX ≡ 66048 }
@@ -90,12 +94,12 @@ pub struct Bounds {
 impl Bounds {
     /// The limits of a run whose trace is of version 1.
     pub fn version_1() -> Self
-        ensures exact { result ≡ record { file_size = FILE_SIZE_1; pipe_capacity = PIPE_CAPACITY } }
+        ensures exact { result ≡ record { file_size = FILE_SIZE_1; pipe_capacity = PIPE_CAPACITY_1 } }
         ensures plain { result ≡ record { file_size = 1048576; pipe_capacity = 1024 } }
     {
         Bounds {
             file_size: FILE_SIZE_1,
-            pipe_capacity: PIPE_CAPACITY,
+            pipe_capacity: PIPE_CAPACITY_1,
         }
     }
 }

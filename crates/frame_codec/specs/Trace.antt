@@ -3,7 +3,7 @@ use Rattle.std.specs.Prelude.{ℕ, ◌+◌, ◌-◌, ◌==◌, nat_le, nat_lt, B
 use Rattle.std.specs.Int.{w32, w64, from_be_bytes}
 use Rattle.call_types.specs.declared.act.Record.{Record}
 use Rattle.call_types.specs.declared.limits.Limits.{Limits}
-use Rattle.call_types.specs.declared.limits.TheConstants.{FILE_SIZE_1, FILE_SIZE_MAX, PIPE_CAPACITY, PIPE_CAPACITY_MAX, PIPE_CAPACITY_MIN, RECORDS_MAX}
+use Rattle.call_types.specs.declared.limits.TheConstants.{FILE_SIZE_1, FILE_SIZE_MAX, PIPE_CAPACITY_1, PIPE_CAPACITY_MAX, PIPE_CAPACITY_MIN, RECORDS_MAX}
 use Rattle.frame_codec.specs.Fields.{number_bytes}
 use Rattle.frame_codec.specs.Frames.{frame}
 use Rattle.frame_codec.specs.Records.{record_bytes}
@@ -16,7 +16,7 @@ use Rattle.frame_codec.specs.declared.trace.TheConstants.{HEADER_1_LENGTH, HEADE
 
 -- what a trace of version 1 tells: not how many records, and the limits that all those runs had
 abbrev pub version_1 : ToldLimits
-version_1 = record { records = None; bounds = record { file_size = FILE_SIZE_1; pipe_capacity = PIPE_CAPACITY } }
+version_1 = record { records = None; bounds = record { file_size = FILE_SIZE_1; pipe_capacity = PIPE_CAPACITY_1 } }
 
 -- what a trace tells of a run with these limits
 abbrev pub told_of : Limits → ToldLimits

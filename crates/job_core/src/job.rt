@@ -15,7 +15,7 @@ use crate::shown::Form;
 use crate::spelling::Spelling;
 use crate::telling::Telling;
 use call_types::limits::{
-    Limits, PIPE_CAPACITY, PIPE_CAPACITY_MAX, PIPE_CAPACITY_MIN, RECORDS_MAX,
+    Limits, PIPE_CAPACITY_DEFAULT, PIPE_CAPACITY_MAX, PIPE_CAPACITY_MIN, RECORDS_MAX,
 };
 use clap::error::ErrorKind;
 use clap::{Arg, ArgAction, ArgMatches, Command, Error};
@@ -604,7 +604,7 @@ fn given_capacity<'a>(matches: &ArgMatches<'a>) -> Result<u64, &'a str>
     ensures refused { IfErr result (λ text. IsNoCapacity (first_value (found_of matches.now) (codes "pipe-capacity"))) }
 {
     match matches.get_str("pipe-capacity") {
-        None => Ok(PIPE_CAPACITY),
+        None => Ok(PIPE_CAPACITY_DEFAULT),
         Some(text) => match capacity_of(text) {
             Some(capacity) => Ok(capacity),
             None => Err(text),

@@ -15,7 +15,7 @@ mod trial;
 mod trial_fault;
 
 use byte_ledger::ledgers::Blanks;
-use call_types::limits::{Limits, PIPE_CAPACITY};
+use call_types::limits::{Limits, PIPE_CAPACITY_DEFAULT};
 use giver::Way;
 use std::alloc::Global;
 use std::io;
@@ -45,8 +45,8 @@ fn number_of(word: &str) -> Result<u64, TrialFault> {
 /// How acts are given, and what the run may take, as the words of the command line say.
 fn job_of(words: &[String]) -> Result<(Way, Limits), TrialFault> {
     let (way, records, capacity) = match words {
-        [_, way] => (way, DEFAULT_RECORDS, PIPE_CAPACITY),
-        [_, way, records] => (way, number_of(records.as_str())?, PIPE_CAPACITY),
+        [_, way] => (way, DEFAULT_RECORDS, PIPE_CAPACITY_DEFAULT),
+        [_, way, records] => (way, number_of(records.as_str())?, PIPE_CAPACITY_DEFAULT),
         [_, way, records, capacity] => {
             let records = number_of(records.as_str())?;
             (way, records, number_of(capacity.as_str())?)

@@ -12,7 +12,7 @@ mod trial;
 mod trial_fault;
 mod waiting;
 
-use call_types::limits::{Limits, PIPE_CAPACITY};
+use call_types::limits::{Limits, PIPE_CAPACITY_DEFAULT};
 use logged_streams::stream_log::REFUSALS_MAX;
 use run_core::report::{Report, RunFault, Session};
 use session_core::memory::{MemoryReader, MemoryWriter};
@@ -43,7 +43,7 @@ fn limits_of(words: &[String]) -> Result<Limits, TrialFault> {
         [_, word] => word.parse::<u64>().map_err(|_| TrialFault::Usage)?,
         _ => return Err(TrialFault::Usage),
     };
-    Limits::new(records, PIPE_CAPACITY).map_err(|_| TrialFault::Usage)
+    Limits::new(records, PIPE_CAPACITY_DEFAULT).map_err(|_| TrialFault::Usage)
 }
 
 /// Prints how a session ended, and how many answers it gave.

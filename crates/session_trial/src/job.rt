@@ -2,7 +2,7 @@
 use crate::stranger::Forgets;
 use crate::trial_fault::TrialFault;
 use call_types::act::ScriptAct;
-use call_types::limits::{Limits, PIPE_CAPACITY};
+use call_types::limits::{Limits, PIPE_CAPACITY_DEFAULT};
 use script_text::reading::read_act;
 use session_core::memory::Manner;
 use std::alloc::{AllocError, Global};
@@ -68,7 +68,7 @@ fn acts_of(alloc: Global, lines: &[String]) -> Result<Vec<ScriptAct>, TrialFault
 pub(crate) fn job_of(alloc: Global, words: &[String]) -> Result<Job, TrialFault> {
     match words {
         [_, records, kernel, reads, writes, lines @ ..] => Ok(Job {
-            limits: Limits::new(number_of(records.as_str())?, PIPE_CAPACITY).map_err(
+            limits: Limits::new(number_of(records.as_str())?, PIPE_CAPACITY_DEFAULT).map_err(
                 |_| TrialFault::Usage,
             )?,
             forgets: forgets_of(kernel.as_str())?,

@@ -4,7 +4,7 @@ use Rattle.plain_world.specs.Proved.Types.{Call, Record, Reply, OpenFlags, Bound
 use Rattle.call_types.specs.declared.call.Call.TheVariants.{Open, Close, Read, Write, Pread, Pwrite, Lseek, Ftruncate, Dup, Dup2, Pipe, Mkfifo, Link, Unlink, Fstat, Fork, Getfl, Setfl, Rename}
 use Rattle.call_types.specs.declared.whence.Whence.TheVariants.{Set, Cur, End}
 use Rattle.call_types.specs.declared.act.TheConstants.{HOUSE}
-use Rattle.call_types.specs.declared.limits.TheConstants.{FILE_SIZE_MAX, PIPE_CAPACITY}
+use Rattle.call_types.specs.declared.limits.TheConstants.{FILE_SIZE_MAX, PIPE_CAPACITY_DEFAULT}
 use Rattle.call_types.specs.declared.act.Act.TheVariants as act
 use Rattle.call_types.specs.declared.outcome.Outcome.TheVariants as outcome
 use Rattle.call_types.specs.declared.outcome.Reply.TheVariants as reply
@@ -14,7 +14,7 @@ use Rattle.posix_model.specs.Turns.{bytes_in, bytes_out}
 
 -- the standard limits, in bytes
 abbrev pub standard : Bounds
-standard = record { file_size = FILE_SIZE_MAX; pipe_capacity = PIPE_CAPACITY }
+standard = record { file_size = FILE_SIZE_MAX; pipe_capacity = PIPE_CAPACITY_DEFAULT }
 
 -- files of 16 bytes at most
 abbrev pub small : Bounds
