@@ -121,7 +121,8 @@ module _ (short : StepIsShort) (keeps : StepKeepsWhole) where
   has_frame : (bounds : Bounds) (w : World) (r : Record) → IsWhole w → Steps (step bounds w r.actor r.act) r.outcome → IsInRange r → HasFrame r
   has_frame bounds w r whole s h =
       let brief = short bounds w r.actor r.act s.made whole s.is (act_short r.act h.1) in
-      let long : record_length r ≤ RECORD_LENGTH_MAX = subst (λ (o : Outcome). record_length (record { actor = r.actor; act = r.act; outcome = o }) ≤ RECORD_LENGTH_MAX) s.gives brief in
+      let long : record_length r ≤ RECORD_LENGTH_MAX =
+      subst (λ (o : Outcome). record_length (record { actor = r.actor; act = r.act; outcome = o }) ≤ RECORD_LENGTH_MAX) s.gives brief in
       ((h.0, h.1, may_act bounds w r.actor r.act s.made s.is, h.2), omega (arith, record_long r, long))
 
   whole_after : (bounds : Bounds) (w : World) (r : Record) → IsWhole w → Steps (step bounds w r.actor r.act) r.outcome → IsWhole (after bounds w r)

@@ -41,10 +41,12 @@ can_make sound keeps j actor act d whole small is =
     }
 
 -- the records that a run keeps free, counted one after another
-pub reserve_is : (w : World) (most place count closing : ℕ) → count ≡ live w.processes → closing ≡ cond w.closed 0 1 → leb (((place + 1) + count) + closing) most ≡ has_reserve most w (place + 1)
+pub reserve_is : (w : World) (most place count closing : ℕ) → count ≡ live w.processes → closing ≡ cond w.closed 0 1 →
+    leb (((place + 1) + count) + closing) most ≡ has_reserve most w (place + 1)
 reserve_is w most place count closing counted closes = ap (λ (n : ℕ). leb n most) (sum w.closed place count (live w.processes) closing counted closes)
   where
-    sum : (closed : Bool) (place count all closing : ℕ) → count ≡ all → closing ≡ cond closed 0 1 → ((place + 1) + count) + closing ≡ (place + 1) + cond closed all (all + 1)
+    sum : (closed : Bool) (place count all closing : ℕ) → count ≡ all → closing ≡ cond closed 0 1 →
+        ((place + 1) + count) + closing ≡ (place + 1) + cond closed all (all + 1)
     sum true place count all closing counted closes = omega (arith, counted, closes)
     sum false place count all closing counted closes = omega (arith, counted, closes)
 
@@ -52,15 +54,19 @@ world_from-push : (bounds : Bounds) (w : World) (h : List Record) (r : Record) �
 world_from-push bounds w [] r = refl
 world_from-push bounds w (x ∷ h) r = world_from-push bounds (after bounds w x) h r
 
-legal_from-push : (bounds : Bounds) (w : World) (h : List Record) (r : Record) → legal_from bounds w h → outcome_of bounds (world_from bounds w h) r.actor r.act ≡ Some r.outcome → legal_from bounds w (h ++ r ∷ [])
+legal_from-push : (bounds : Bounds) (w : World) (h : List Record) (r : Record) → legal_from bounds w h → outcome_of bounds (world_from bounds w h) r.actor r.act
+    ≡ Some r.outcome → legal_from bounds w (h ++ r ∷ [])
 legal_from-push bounds w [] r is_legal e = (e, tt)
 legal_from-push bounds w (x ∷ h) r is_legal e = (is_legal.0, legal_from-push bounds (after bounds w x) h r is_legal.1 e)
 
 -- a run that can be ended after each record, and after one more, of so many
-ends_from-push : (bounds : Bounds) (most : Option ℕ) (w : World) (len : ℕ) (h : List Record) (r : Record) (all : ℕ) → CanEndFrom bounds most w len h → all ≡ (len + length h) + 1
+ends_from-push : (bounds : Bounds) (most : Option ℕ) (w : World) (len : ℕ) (h : List Record) (r : Record) (all : ℕ) → CanEndFrom bounds most w len h →
+    all ≡ (len + length h) + 1
     → can_end most (after bounds (world_from bounds w h) r) all ≡ true → CanEndFrom bounds most w len (h ++ r ∷ [])
-ends_from-push bounds most w len [] r all ends is e = let one : all ≡ len + 1 = omega (arith, is) in (subst (λ (n : ℕ). can_end most (after bounds w r) n ≡ true) one e, tt)
-ends_from-push bounds most w len (x ∷ h) r all ends is e = (ends.0, ends_from-push bounds most (after bounds w x) (len + 1) h r all ends.1 (omega (arith, is)) e)
+ends_from-push bounds most w len [] r all ends is e = let one : all ≡ len + 1 = omega (arith, is) in
+    (subst (λ (n : ℕ). can_end most (after bounds w r) n ≡ true) one e, tt)
+ends_from-push bounds most w len (x ∷ h) r all ends is e =
+    (ends.0, ends_from-push bounds most (after bounds w x) (len + 1) h r all ends.1 (omega (arith, is)) e)
 
 push_front : (xs : List Record) (x : Record) (ys : List Record) → xs ++ x ∷ ys ≡ (xs ++ x ∷ []) ++ ys
 push_front [] x ys = refl
@@ -79,12 +85,15 @@ ending_from-push e [] r = refl
 ending_from-push e (x ∷ h) r = ending_from-push (ended_by x.act) h r
 
 -- what the model gives is judged with what was before it
-pub judged_more : (told : ToldLimits) (h : List Record) (r : Record) (a b : JudgeState) → length h < 2 ^ 64 → HasJudged told h a → GoesOn a b r → HasJudged told (h ++ r ∷ []) b
+pub judged_more : (told : ToldLimits) (h : List Record) (r : Record) (a b : JudgeState) → length h < 2 ^ 64 → HasJudged told h a → GoesOn a b r →
+    HasJudged told (h ++ r ∷ []) b
 judged_more told h r a b few judged on =
-    let outcome : outcome_of told.bounds (world_from told.bounds empty_world h) r.actor r.act ≡ Some r.outcome = rw (judged.told_is, judged.world) at on.outcome in
+    let outcome : outcome_of told.bounds (world_from told.bounds empty_world h) r.actor r.act ≡ Some r.outcome =
+    rw (judged.told_is, judged.world) at on.outcome in
     let place : told_place (a.place + 1) ≡ told_place (length (h ++ r ∷ [])) = rw (length-append h (r ∷ [])) (place_more a.place (length h) judged.place) in
     let all : a.place + 1 ≡ (0 + length h) + 1 = let same = place_told a.place (length h) judged.place few in omega (arith, same) in
-    let ends : can_end told.records (after told.bounds (world_from told.bounds empty_world h) r) (a.place + 1) ≡ true = rw (judged.told_is, judged.world) at on.ends in
+    let ends : can_end told.records (after told.bounds (world_from told.bounds empty_world h) r) (a.place + 1) ≡ true =
+    rw (judged.told_is, judged.world) at on.ends in
     record {
       is_legal = record {
         is_legal = legal_from-push told.bounds empty_world h r judged.is_legal.is_legal outcome;
@@ -101,7 +110,8 @@ abbrev pub takes : Judging → Judging → Record → Bool → Type 0
 takes old new r more = JudgesNext old.judge new.judge r new.expected more
 
 -- all records after which it wanted more are judged after those before them
-pub all_judged : (told : ToldLimits) (h values : List Record) (old new : Judging) → TakesEach takes old new values → HasJudged told h old.judge → length (h ++ values) < 2 ^ 64
+pub all_judged : (told : ToldLimits) (h values : List Record) (old new : Judging) → TakesEach takes old new values → HasJudged told h old.judge →
+    length (h ++ values) < 2 ^ 64
     → HasJudged told (h ++ values) new.judge
 all_judged told h [] old new same judged few = rw (append-nil h, same) judged
 all_judged told h (r ∷ values) old new each judged few =

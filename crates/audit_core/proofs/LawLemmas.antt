@@ -33,13 +33,16 @@ record IsFine (told : ToldLimits) (before : List Record) (r : Record) : Type 0 w
   outcome : outcome_of told.bounds (world_of told.bounds before) r.actor r.act ≡ Some r.outcome
   ends : can_end told.records (after told.bounds (world_of told.bounds before) r) (length before + 1) ≡ true
 
-there_from : (bounds : Bounds) (w : World) (h more : List Record) (r : Record) → legal_from bounds w (h ++ r ∷ more) → outcome_of bounds (world_from bounds w h) r.actor r.act ≡ Some r.outcome
+there_from : (bounds : Bounds) (w : World) (h more : List Record) (r : Record) → legal_from bounds w (h ++ r ∷ more) →
+    outcome_of bounds (world_from bounds w h) r.actor r.act ≡ Some r.outcome
 there_from bounds w [] more r l = l.0
 there_from bounds w (x ∷ h) more r l = there_from bounds (after bounds w x) h more r l.1
 
-ends_from : (bounds : Bounds) (most : Option ℕ) (w : World) (len : ℕ) (h more : List Record) (r : Record) (all : ℕ) → CanEndFrom bounds most w len (h ++ r ∷ more) → (len + length h) + 1 ≡ all
+ends_from : (bounds : Bounds) (most : Option ℕ) (w : World) (len : ℕ) (h more : List Record) (r : Record) (all : ℕ) →
+    CanEndFrom bounds most w len (h ++ r ∷ more) → (len + length h) + 1 ≡ all
     → can_end most (after bounds (world_from bounds w h) r) all ≡ true
-ends_from bounds most w len [] more r all l is = let one : len + 1 ≡ all = omega (arith, is) in subst (λ (n : ℕ). can_end most (after bounds w r) n ≡ true) one l.0
+ends_from bounds most w len [] more r all l is = let one : len + 1 ≡ all = omega (arith, is) in
+    subst (λ (n : ℕ). can_end most (after bounds w r) n ≡ true) one l.0
 ends_from bounds most w len (x ∷ h) more r all l is = ends_from bounds most (after bounds w x) (len + 1) h more r all l.1 (omega (arith, is))
 
 -- each record of a legal run is fine after those before it
@@ -50,12 +53,14 @@ fine_there told h more r l = record {
 }
 
 -- no record that is fine breaks what is legal
-never_fine : (told : ToldLimits) (before : List Record) (r : Record) (expected : Option Outcome) → IsFine told before r → Differs told before r expected ⊎ Overruns told before r expected → ⊥
+never_fine : (told : ToldLimits) (before : List Record) (r : Record) (expected : Option Outcome) → IsFine told before r →
+    Differs told before r expected ⊎ Overruns told before r expected → ⊥
 never_fine told before r expected fine (inl d) = d.differs (sym d.expected_is ∙ fine.outcome)
 never_fine told before r expected fine (inr o) = let both = sym o.ends_not ∙ fine.ends in cc
 
 -- no list that breaks is legal
-never_both : (told : ToldLimits) (h : List Record) (place : ℕ) (expected : Option Outcome) → IsLegalRun told.bounds told.records h → BreaksAt told h place expected → ⊥
+never_both : (told : ToldLimits) (h : List Record) (place : ℕ) (expected : Option Outcome) → IsLegalRun told.bounds told.records h →
+    BreaksAt told h place expected → ⊥
 never_both told h place expected l b =
     never_fine told b.before b.broken expected
     (fine_there told b.before b.others b.broken (subst (λ (x : List Record). IsLegalRun told.bounds told.records x) b.all_are l)) b.breaks
@@ -66,7 +71,8 @@ record ComesFirst (g : List Record) (r : Record) (h : List Record) : Type 0 wher
   is : h ≡ g ++ r ∷ more
 
 -- two places of one list are the same, or one comes first
-places : (g h : List Record) (r s : Record) (more other : List Record) → g ++ r ∷ more ≡ h ++ s ∷ other → ((g ≡ h) × (r ≡ s)) ⊎ (ComesFirst g r h ⊎ ComesFirst h s g)
+places : (g h : List Record) (r s : Record) (more other : List Record) → g ++ r ∷ more ≡ h ++ s ∷ other →
+    ((g ≡ h) × (r ≡ s)) ⊎ (ComesFirst g r h ⊎ ComesFirst h s g)
 places [] [] r s more other e = let same : r ≡ s = cc in inl (refl, same)
 places [] (y ∷ h) r s more other e = let same : y ≡ r = cc in inr (inl (record { more = h; is = ap (λ (x : Record). x ∷ h) same }))
 places (x ∷ g) [] r s more other e = let same : x ≡ s = cc in inr (inr (record { more = g; is = ap (λ (z : Record). z ∷ g) same }))
@@ -90,11 +96,13 @@ one_expected told before r expected other (inr v) (inl u) = absurd (u.differs (s
 one_expected told before r expected other (inr v) (inr u) = v.expected_is ∙ sym u.expected_is
 
 -- what comes before a place that breaks is legal, so no place before it breaks
-not_first : (told : ToldLimits) (g h : List Record) (r : Record) (expected : Option Outcome) → IsLegalRun told.bounds told.records h → Differs told g r expected ⊎ Overruns told g r expected → ComesFirst g r h → ⊥
+not_first : (told : ToldLimits) (g h : List Record) (r : Record) (expected : Option Outcome) → IsLegalRun told.bounds told.records h →
+    Differs told g r expected ⊎ Overruns told g r expected → ComesFirst g r h → ⊥
 not_first told g h r expected l breaks f =
     never_fine told g r expected (fine_there told g f.more r (subst (λ (x : List Record). IsLegalRun told.bounds told.records x) f.is l)) breaks
 
-one_break : (told : ToldLimits) (h : List Record) (place other : ℕ) (expected given : Option Outcome) → BreaksAt told h place expected → BreaksAt told h other given → (place ≡ other) × (expected ≡ given)
+one_break : (told : ToldLimits) (h : List Record) (place other : ℕ) (expected given : Option Outcome) → BreaksAt told h place expected →
+    BreaksAt told h other given → (place ≡ other) × (expected ≡ given)
 one_break told h place other expected given v u = elim (places v.before u.before v.broken u.broken v.others u.others (sym v.all_are ∙ u.all_are)) [
   | inl same ↦
       let B : List Record → Record → Type 0 = λ x z. Differs told x z expected ⊎ Overruns told x z expected in
@@ -110,7 +118,8 @@ records_assoc : (xs ys zs : List Record) → (xs ++ ys) ++ zs ≡ xs ++ (ys ++ z
 records_assoc [] ys zs = refl
 records_assoc (x ∷ xs) ys zs = ap (λ (l : List Record). x ∷ l) (records_assoc xs ys zs)
 
-breaks_on : (told : ToldLimits) (h more : List Record) (place : ℕ) (expected : Option Outcome) → BreaksAt told h place expected → BreaksAt told (h ++ more) place expected
+breaks_on : (told : ToldLimits) (h more : List Record) (place : ℕ) (expected : Option Outcome) → BreaksAt told h place expected →
+    BreaksAt told (h ++ more) place expected
 breaks_on told h more place expected b = record {
   before = b.before;
   broken = b.broken;
@@ -130,7 +139,8 @@ record IsFront (h k : List Record) (x y : List ℕ) : Type 0 where
   framed : HaveFrames more
   rest_is : x ≡ frames_of more ++ y
 
-fronts_of : OneForm SpellsRecord RECORD_LENGTH_MAX → (h k : List Record) (x y : List ℕ) → HaveFrames h → HaveFrames k → frames_of h ++ x ≡ frames_of k ++ y → IsFront h k x y ⊎ IsFront k h y x
+fronts_of : OneForm SpellsRecord RECORD_LENGTH_MAX → (h k : List Record) (x y : List ℕ) → HaveFrames h → HaveFrames k → frames_of h ++ x ≡ frames_of k ++ y →
+    IsFront h k x y ⊎ IsFront k h y x
 fronts_of law [] k x y f g e = inl (record { more = k; is = refl; framed = g; rest_is = e })
 fronts_of law (r ∷ h) [] x y f g e = inr (record { more = r ∷ h; is = refl; framed = f; rest_is = sym e })
 fronts_of law (r ∷ h) (s ∷ k) x y f g e =
@@ -138,15 +148,27 @@ fronts_of law (r ∷ h) (s ∷ k) x y f g e =
     sym (append_assoc (frame (record_bytes r)) (frames_of h) x) ∙ e ∙ append_assoc (frame (record_bytes s)) (frames_of k) y in
     let same = law r s (frame (record_bytes r)) (frame (record_bytes s)) (frames_of h ++ x) (frames_of k ++ y) (has_frame r f.0) (has_frame s g.0) bytes in
     elim (fronts_of law h k x y f.1 g.1 same.2) [
-      | inl front ↦ inl (record { more = front.more; is = ap (λ (z : Record). z ∷ k) (sym same.0) ∙ ap (λ (l : List Record). r ∷ l) front.is; framed = front.framed; rest_is = front.rest_is })
-      | inr front ↦ inr (record { more = front.more; is = ap (λ (z : Record). z ∷ h) same.0 ∙ ap (λ (l : List Record). s ∷ l) front.is; framed = front.framed; rest_is = front.rest_is })
+      | inl front ↦ inl (record {
+        more = front.more;
+        is = ap (λ (z : Record). z ∷ k) (sym same.0) ∙ ap (λ (l : List Record). r ∷ l) front.is;
+        framed =
+            front.framed;
+        rest_is = front.rest_is;
+      })
+      | inr front ↦ inr (record {
+        more = front.more;
+        is = ap (λ (z : Record). z ∷ h) same.0 ∙ ap (λ (l : List Record). s ∷ l) front.is;
+        framed = front.framed;
+        rest_is = front.rest_is;
+      })
     ]
 
 -- a rest that begins with no frame
 abbrev Stops : List ℕ → Type 0
 Stops rest = IsUnfinished rest ⊎ IsAtFault rest
 
-no_more : NoFrameThere SpellsRecord RECORD_LENGTH_MAX → (more : List Record) (x y : List ℕ) → HaveFrames more → Stops x → x ≡ frames_of more ++ y → (more ≡ []) × (x ≡ y)
+no_more : NoFrameThere SpellsRecord RECORD_LENGTH_MAX → (more : List Record) (x y : List ℕ) → HaveFrames more → Stops x → x ≡ frames_of more ++ y →
+    (more ≡ []) × (x ≡ y)
 no_more law [] x y f stops e = (refl, e)
 no_more law (r ∷ more) x y f stops e =
     absurd (law r (frame (record_bytes r)) (frames_of more ++ y) (has_frame r f.0)
@@ -163,7 +185,8 @@ stop_same none h k x y stops front =
     let last = no_more none front.more x y front.framed stops front.rest_is in
     (front.is ∙ ap (λ (l : List Record). h ++ l) last.0 ∙ append-nil h, last.1)
 
-both_complete : OneForm SpellsRecord RECORD_LENGTH_MAX → NoFrameThere SpellsRecord RECORD_LENGTH_MAX → (told : ToldLimits) (bytes : List ℕ) (h k : List Record) (x y : List ℕ)
+both_complete : OneForm SpellsRecord RECORD_LENGTH_MAX → NoFrameThere SpellsRecord RECORD_LENGTH_MAX → (told : ToldLimits) (bytes : List ℕ) (h k : List Record)
+    (x y : List ℕ)
     → IsComplete told bytes h x → IsComplete told bytes k y → (h ≡ k) × (x ≡ y)
 both_complete one none told bytes h k x y b c = elim (fronts_of one h k x y b.begins.framed c.begins.framed (sym b.begins.is ∙ c.begins.is)) [
   | inl front ↦ let same = stop_same none h k x y b.stops front in (sym same.0, same.1)
@@ -171,23 +194,27 @@ both_complete one none told bytes h k x y b c = elim (fronts_of one h k x y b.be
 ]
 
 -- no bytes with complete legal records have one that breaks
-not_broken : OneForm SpellsRecord RECORD_LENGTH_MAX → NoFrameThere SpellsRecord RECORD_LENGTH_MAX → (told : ToldLimits) (bytes : List ℕ) (h : List Record) (x : List ℕ) (place : ℕ) (expected : Option Outcome)
+not_broken : OneForm SpellsRecord RECORD_LENGTH_MAX → NoFrameThere SpellsRecord RECORD_LENGTH_MAX → (told : ToldLimits) (bytes : List ℕ) (h : List Record)
+    (x : List ℕ) (place : ℕ) (expected : Option Outcome)
     → IsComplete told bytes h x → IsIllegal told bytes place expected → ⊥
 not_broken one none told bytes h x place expected b i = elim (fronts_of one h i.h x i.left b.begins.framed i.begins.framed (sym b.begins.is ∙ i.begins.is)) [
-  | inl front ↦ let same = stop_same none h i.h x i.left b.stops front in never_both told h place expected b.is_legal (subst (λ (l : List Record). BreaksAt told l place expected) same.0 i.breaks)
-  | inr front ↦ never_both told h place expected b.is_legal (subst (λ (l : List Record). BreaksAt told l place expected) (sym front.is) (breaks_on told i.h front.more place expected i.breaks))
+  | inl front ↦ let same = stop_same none h i.h x i.left b.stops front in never_both told h place expected b.is_legal
+      (subst (λ (l : List Record). BreaksAt told l place expected) same.0 i.breaks)
+  | inr front ↦ never_both told h place expected b.is_legal (subst (λ (l : List Record). BreaksAt told l place expected) (sym front.is)
+      (breaks_on told i.h front.more place expected i.breaks))
 ]
 
 one_illegal : OneForm SpellsRecord RECORD_LENGTH_MAX → (told : ToldLimits) (bytes : List ℕ) (place other : ℕ) (expected given : Option Outcome)
     → IsIllegal told bytes place expected → IsIllegal told bytes other given → (place ≡ other) × (expected ≡ given)
-one_illegal one told bytes place other expected given i j = elim (fronts_of one i.h j.h i.left j.left i.begins.framed j.begins.framed (sym i.begins.is ∙ j.begins.is)) [
-  | inl front ↦
-      one_break told j.h place other expected given
-      (subst (λ (l : List Record). BreaksAt told l place expected) (sym front.is) (breaks_on told i.h front.more place expected i.breaks)) j.breaks
-  | inr front ↦
-      one_break told i.h place other expected given i.breaks
-      (subst (λ (l : List Record). BreaksAt told l other given) (sym front.is) (breaks_on told j.h front.more other given j.breaks))
-]
+one_illegal one told bytes place other expected given i j =
+    elim (fronts_of one i.h j.h i.left j.left i.begins.framed j.begins.framed (sym i.begins.is ∙ j.begins.is)) [
+      | inl front ↦
+          one_break told j.h place other expected given
+          (subst (λ (l : List Record). BreaksAt told l place expected) (sym front.is) (breaks_on told i.h front.more place expected i.breaks)) j.breaks
+      | inr front ↦
+          one_break told i.h place other expected given i.breaks
+          (subst (λ (l : List Record). BreaksAt told l other given) (sym front.is) (breaks_on told j.h front.more other given j.breaks))
+    ]
 
 -- a rest is unfinished or at fault, and not both
 not_both : (rest : List ℕ) → IsUnfinished rest → IsAtFault rest → ⊥
@@ -217,20 +244,27 @@ module _ (one : OneForm SpellsRecord RECORD_LENGTH_MAX) (none : NoFrameThere Spe
       let same = both_complete one none told bytes v.h u.h v.left u.left (complete_legal told bytes n r v) (complete_malformed told headed bytes at u) in
       not_both u.left (subst (λ (l : List ℕ). IsUnfinished l) same.1 v.unfinished) u.fault
 
-  malformed_malformed : (told : ToldLimits) (headed : ℕ) (bytes : List ℕ) (at other : ℕ) → IsMalformedAt told headed bytes at → IsMalformedAt told headed bytes other → at ≡ other
+  malformed_malformed : (told : ToldLimits) (headed : ℕ) (bytes : List ℕ) (at other : ℕ) → IsMalformedAt told headed bytes at →
+      IsMalformedAt told headed bytes other → at ≡ other
   malformed_malformed told headed bytes at other v u =
-      let same = both_complete one none told bytes v.h u.h v.left u.left (complete_malformed told headed bytes at v) (complete_malformed told headed bytes other u) in
+      let same = both_complete one none told bytes v.h u.h v.left u.left (complete_malformed told headed bytes at v)
+      (complete_malformed told headed bytes other u) in
       v.at_is ∙ ap (λ (h : List Record). headed + length (frames_of h)) same.0 ∙ sym u.at_is
 
-  one_after : (told : ToldLimits) (headed : ℕ) (bytes : List ℕ) (v u : Verdict) → IsVerdictAfter told headed bytes v → IsVerdictAfter told headed bytes u → v ≡ u
+  one_after : (told : ToldLimits) (headed : ℕ) (bytes : List ℕ) (v u : Verdict) → IsVerdictAfter told headed bytes v → IsVerdictAfter told headed bytes u →
+      v ≡ u
   one_after told headed bytes (Legal n r) (Legal m s) v u = legal_legal told bytes n r m s v u
-  one_after told headed bytes (Legal n r) (Illegal place expected) v u = absurd (not_broken one none told bytes v.h v.left place expected (complete_legal told bytes n r v) u)
+  one_after told headed bytes (Legal n r) (Illegal place expected) v u =
+      absurd (not_broken one none told bytes v.h v.left place expected (complete_legal told bytes n r v) u)
   one_after told headed bytes (Legal n r) (Malformed at) v u = absurd (legal_malformed told headed bytes n r at v u)
-  one_after told headed bytes (Illegal place expected) (Legal n r) v u = absurd (not_broken one none told bytes u.h u.left place expected (complete_legal told bytes n r u) v)
+  one_after told headed bytes (Illegal place expected) (Legal n r) v u =
+      absurd (not_broken one none told bytes u.h u.left place expected (complete_legal told bytes n r u) v)
   one_after told headed bytes (Illegal place expected) (Illegal other given) v u = let same = one_illegal one told bytes place other expected given v u in cc
-  one_after told headed bytes (Illegal place expected) (Malformed at) v u = absurd (not_broken one none told bytes u.h u.left place expected (complete_malformed told headed bytes at u) v)
+  one_after told headed bytes (Illegal place expected) (Malformed at) v u =
+      absurd (not_broken one none told bytes u.h u.left place expected (complete_malformed told headed bytes at u) v)
   one_after told headed bytes (Malformed at) (Legal n r) v u = absurd (legal_malformed told headed bytes n r at u v)
-  one_after told headed bytes (Malformed at) (Illegal place expected) v u = absurd (not_broken one none told bytes v.h v.left place expected (complete_malformed told headed bytes at v) u)
+  one_after told headed bytes (Malformed at) (Illegal place expected) v u =
+      absurd (not_broken one none told bytes v.h v.left place expected (complete_malformed told headed bytes at v) u)
   one_after told headed bytes (Malformed at) (Malformed other) v u = ap Malformed (malformed_malformed told headed bytes at other v u)
 
   one_by : (h : Header) (bytes : List ℕ) (v u : Verdict) → IsVerdictBy h bytes v → IsVerdictBy h bytes u → v ≡ u
@@ -246,7 +280,8 @@ module _ (one : OneForm SpellsRecord RECORD_LENGTH_MAX) (none : NoFrameThere Spe
 module _ (one : OneForm SpellsRecord RECORD_LENGTH_MAX) (none : NoFrameThere SpellsRecord RECORD_LENGTH_MAX) where
   ends_after : (told : ToldLimits) (bytes : List ℕ) (n r : ℕ) (e f : Ending) → EndsWith told bytes n r e → EndsWith told bytes n r f → e ≡ f
   ends_after told bytes n r e f v u =
-      let same = both_complete one none told bytes v.legal.h u.legal.h v.legal.left u.legal.left (complete_legal told bytes n r v.legal) (complete_legal told bytes n r u.legal) in
+      let same = both_complete one none told bytes v.legal.h u.legal.h v.legal.left u.legal.left (complete_legal told bytes n r v.legal)
+      (complete_legal told bytes n r u.legal) in
       v.ending_is ∙ ap (λ (h : List Record). ending_of h) same.0 ∙ sym u.ending_is
 
   ends_by : (h : Header) (bytes : List ℕ) (n r : ℕ) (e f : Ending) → EndsBy h bytes n r e → EndsBy h bytes n r f → e ≡ f
@@ -288,9 +323,11 @@ fault_stays_on rest more fault = elim fault [
 begins_on : (bytes more : List ℕ) (h : List Record) (rest : List ℕ) → Begins bytes h rest → Begins (bytes ++ more) h (rest ++ more)
 begins_on bytes more h rest b = record { is = ap (λ (x : List ℕ). x ++ more) b.is ∙ append_assoc (frames_of h) rest more; framed = b.framed }
 
-stays_after : (told : ToldLimits) (headed : ℕ) (bytes more : List ℕ) (v : Verdict) → TellsFault v → IsVerdictAfter told headed bytes v → IsVerdictAfter told headed (bytes ++ more) v
+stays_after : (told : ToldLimits) (headed : ℕ) (bytes more : List ℕ) (v : Verdict) → TellsFault v → IsVerdictAfter told headed bytes v →
+    IsVerdictAfter told headed (bytes ++ more) v
 stays_after told headed bytes more (Legal records rest) fault v = absurd fault
-stays_after told headed bytes more (Illegal place expected) fault v = record { h = v.h; left = v.left ++ more; begins = begins_on bytes more v.h v.left v.begins; breaks = v.breaks }
+stays_after told headed bytes more (Illegal place expected) fault v =
+    record { h = v.h; left = v.left ++ more; begins = begins_on bytes more v.h v.left v.begins; breaks = v.breaks }
 stays_after told headed bytes more (Malformed at) fault v = record {
   h = v.h;
   left = v.left ++ more;
@@ -300,7 +337,8 @@ stays_after told headed bytes more (Malformed at) fault v = record {
   at_is = v.at_is;
 }
 
-stays_by : (h later : Header) (bytes more : List ℕ) (v : Verdict) → GoesOn (length bytes) h later → TellsFault v → IsVerdictBy h bytes v → IsVerdictBy later (bytes ++ more) v
+stays_by : (h later : Header) (bytes more : List ℕ) (v : Verdict) → GoesOn (length bytes) h later → TellsFault v → IsVerdictBy h bytes v →
+    IsVerdictBy later (bytes ++ more) v
 stays_by Unheaded later bytes more v on fault p = subst (λ (h : Header). IsVerdictBy h (bytes ++ more) v) (sym on) p
 stays_by Short later bytes more v on fault p = absurd (subst (λ (u : Verdict). TellsFault u) p fault)
 stays_by (Headed told headed) later bytes more v on fault p =
@@ -319,7 +357,11 @@ pub record IsText (told : ToldLimits) (h : List Record) (bytes : List ℕ) : Typ
   pub frames : drop HEADER_2_LENGTH bytes ≡ frames_of h
 
 pub text_is_read : HeadersAreRead → (told : ToldLimits) (h : List Record) → is_told told ≡ true → IsText told h (text told h)
-text_is_read read told h is = record { headed = read.second told (frames_of h) is; frames = drop_at (header_2 told) (frames_of h) HEADER_2_LENGTH (read.long told) }
+text_is_read read told h is = record {
+  headed = read.second told (frames_of h) is;
+  frames = drop_at (header_2 told) (frames_of h) HEADER_2_LENGTH
+      (read.long told);
+}
 
 pub text_is_legal : HeadersAreRead → TextIsLegal
 text_is_legal read told h is l framed =
@@ -333,7 +375,8 @@ text_is_legal read told h is l framed =
       records_are = refl;
       rest_is = refl;
     } in
-    subst (λ (x : Header). IsVerdictBy x (text told h) (Legal (length h) 0)) (sym t.headed) (subst (λ (x : List ℕ). IsLegal told x (length h) 0) (sym t.frames) legal)
+    subst (λ (x : Header). IsVerdictBy x (text told h) (Legal (length h) 0)) (sym t.headed)
+    (subst (λ (x : List ℕ). IsLegal told x (length h) 0) (sym t.frames) legal)
 
 -- a front of a text ends within its header, or after it come bytes that are a front of the frames
 pub record IsFrontAfter (told : ToldLimits) (h : List Record) (bytes left : List ℕ) : Type 0 where
@@ -345,14 +388,17 @@ pub record IsFrontWithin (bytes : List ℕ) : Type 0 where
   pub short : header bytes ≡ Short
   pub few : length bytes + 1 ≤ HEADER_2_LENGTH
 
-pub front_of_text : HeaderGoesOn → HeadersAreRead → (told : ToldLimits) (h : List Record) (bytes left : List ℕ) → is_told told ≡ true → text told h ≡ bytes ++ left → IsFrontWithin bytes ⊎ IsFrontAfter told h bytes left
+pub front_of_text : HeaderGoesOn → HeadersAreRead → (told : ToldLimits) (h : List Record) (bytes left : List ℕ) → is_told told ≡ true →
+    text told h ≡ bytes ++ left → IsFrontWithin bytes ⊎ IsFrontAfter told h bytes left
 front_of_text on read told h bytes left is e =
     let t = subst (λ (x : List ℕ). IsText told h x) e (text_is_read read told h is) in
     by (header bytes) refl (on bytes left) t
   where
-    by : (x : Header) → header bytes ≡ x → GoesOn (length bytes) (header bytes) (header (bytes ++ left)) → IsText told h (bytes ++ left) → IsFrontWithin bytes ⊎ IsFrontAfter told h bytes left
+    by : (x : Header) → header bytes ≡ x → GoesOn (length bytes) (header bytes) (header (bytes ++ left)) → IsText told h (bytes ++ left) →
+        IsFrontWithin bytes ⊎ IsFrontAfter told h bytes left
     by Unheaded is on t = let never = sym (subst (λ (x : Header). GoesOn (length bytes) x (header (bytes ++ left))) is on) ∙ t.headed in cc
-    by Short is on t = let few = subst (λ (x : Header). GoesOn (length bytes) x (header (bytes ++ left))) is on in inl (record { short = is; few = omega (arith, few.0) })
+    by Short is on t = let few = subst (λ (x : Header). GoesOn (length bytes) x (header (bytes ++ left))) is on in
+        inl (record { short = is; few = omega (arith, few.0) })
     by (Headed other n) is on t =
         let later = subst (λ (x : Header). GoesOn (length bytes) x (header (bytes ++ left))) is on in
         let same : Headed other n ≡ Headed told HEADER_2_LENGTH = sym later.0 ∙ t.headed in
@@ -373,7 +419,8 @@ record IsPart (h k : List Record) : Type 0 where
 whole_frames : (h : List Record) → HaveFrames h → Begins (frames_of h) h []
 whole_frames h framed = record { is = sym (append-nil (frames_of h)); framed = framed }
 
-part_of : OneForm SpellsRecord RECORD_LENGTH_MAX → (h k : List Record) (bytes left rest : List ℕ) → HaveFrames h → frames_of h ≡ bytes ++ left → Begins bytes k rest → IsPart h k
+part_of : OneForm SpellsRecord RECORD_LENGTH_MAX → (h k : List Record) (bytes left rest : List ℕ) → HaveFrames h → frames_of h ≡ bytes ++ left →
+    Begins bytes k rest → IsPart h k
 part_of one h k bytes left rest framed is b =
     let on = begins_on bytes left k rest b in
     let all : Begins (bytes ++ left) h [] = subst (λ (x : List ℕ). Begins x h []) is (whole_frames h framed) in
@@ -384,27 +431,37 @@ part_of one h k bytes left rest framed is b =
       | inr front ↦ record { more = front.more; is = front.is }
     ]
 
-text_not_broken : OneForm SpellsRecord RECORD_LENGTH_MAX → (told : ToldLimits) (h : List Record) (bytes left : List ℕ) (place : ℕ) (expected : Option Outcome) → IsLegalRun told.bounds told.records h → HaveFrames h
+text_not_broken : OneForm SpellsRecord RECORD_LENGTH_MAX → (told : ToldLimits) (h : List Record) (bytes left : List ℕ) (place : ℕ) (expected : Option Outcome) →
+    IsLegalRun told.bounds told.records h → HaveFrames h
     → frames_of h ≡ bytes ++ left → IsIllegal told bytes place expected → ⊥
 text_not_broken one told h bytes left place expected l framed is v =
     let part = part_of one h v.h bytes left v.left framed is v.begins in
-    never_both told h place expected l (subst (λ (x : List Record). BreaksAt told x place expected) (sym part.is) (breaks_on told v.h part.more place expected v.breaks))
+    never_both told h place expected l (subst (λ (x : List Record). BreaksAt told x place expected) (sym part.is)
+    (breaks_on told v.h part.more place expected v.breaks))
 
-text_not_malformed : OneForm SpellsRecord RECORD_LENGTH_MAX → NoFrameThere SpellsRecord RECORD_LENGTH_MAX → (told : ToldLimits) (headed : ℕ) (h : List Record) (bytes left : List ℕ) (at : ℕ)
+text_not_malformed : OneForm SpellsRecord RECORD_LENGTH_MAX → NoFrameThere SpellsRecord RECORD_LENGTH_MAX → (told : ToldLimits) (headed : ℕ) (h : List Record)
+    (bytes left : List ℕ) (at : ℕ)
     → IsLegalRun told.bounds told.records h → HaveFrames h → frames_of h ≡ bytes ++ left → IsMalformedAt told headed bytes at → ⊥
 text_not_malformed one none told headed h bytes left at l framed is v =
-    let whole : IsComplete told (bytes ++ left) h [] = record { begins = subst (λ (x : List ℕ). Begins x h []) is (whole_frames h framed); stops = inl (inl (omega arith)); is_legal = l } in
+    let whole : IsComplete told (bytes ++ left) h [] = record {
+      begins = subst (λ (x : List ℕ). Begins x h []) is (whole_frames h framed);
+      stops =
+          inl (inl (omega arith));
+      is_legal = l;
+    } in
     let part : IsComplete told (bytes ++ left) v.h (v.left ++ left) =
     record { begins = begins_on bytes left v.h v.left v.begins; stops = inr (fault_stays_on v.left left v.fault); is_legal = v.is_legal } in
     let same = both_complete one none told (bytes ++ left) h v.h [] (v.left ++ left) whole part in
     omega (arith, ap length same.1, fault_long v.left v.fault, length-append v.left left)
 
-front_after : OneForm SpellsRecord RECORD_LENGTH_MAX → NoFrameThere SpellsRecord RECORD_LENGTH_MAX → (told : ToldLimits) (headed : ℕ) (h : List Record) (bytes left : List ℕ) (v : Verdict)
+front_after : OneForm SpellsRecord RECORD_LENGTH_MAX → NoFrameThere SpellsRecord RECORD_LENGTH_MAX → (told : ToldLimits) (headed : ℕ) (h : List Record)
+    (bytes left : List ℕ) (v : Verdict)
     → IsLegalRun told.bounds told.records h → HaveFrames h → frames_of h ≡ bytes ++ left → IsVerdictAfter told headed bytes v → TellsFront h v
 front_after one none told headed h bytes left (Legal records rest) l framed is v =
     let part = part_of one h v.h bytes left v.left framed is v.begins in
     record { whole = v.h; more = part.more; rest = rest; front = part.is; verdict = ap (λ (n : ℕ). Legal n rest) v.records_are }
-front_after one none told headed h bytes left (Illegal place expected) l framed is v = absurd (text_not_broken one told h bytes left place expected l framed is v)
+front_after one none told headed h bytes left (Illegal place expected) l framed is v =
+    absurd (text_not_broken one told h bytes left place expected l framed is v)
 front_after one none told headed h bytes left (Malformed at) l framed is v = absurd (text_not_malformed one none told headed h bytes left at l framed is v)
 
 pub front_is_legal : OneForm SpellsRecord RECORD_LENGTH_MAX → NoFrameThere SpellsRecord RECORD_LENGTH_MAX → HeaderGoesOn → HeadersAreRead → FrontIsLegal

@@ -19,18 +19,22 @@ use Rattle.audit_core.proofs.TraceLemmas.{few_records, are_frames, begins_so}
 -- ---- what is found
 
 -- what is found after a header is found in all bytes
-found_after : (input body : List ℕ) (told : ToldLimits) (front : List ℕ) (new : BodyState) (found : Option Verdict) → header input ≡ Headed told new.headed → drop new.headed input ≡ body
+found_after : (input body : List ℕ) (told : ToldLimits) (front : List ℕ) (new : BodyState) (found : Option Verdict) → header input ≡ Headed told new.headed →
+    drop new.headed input ≡ body
     → length input < 2 ^ 64 → BodyGoesOn told body new found → IsFound input (record { front = front; body = Some new }) found
 found_after input body told front new None headed is few goes =
     record { by = (told, headed, subst (λ (x : List ℕ). IsJudging told x new) (sym is) goes); few = few }
 found_after input body told front new (Some (Legal records rest)) headed is few goes = absurd goes
 found_after input body told front new (Some (Illegal place expected)) headed is few goes =
-    subst (λ (h : Header). IsVerdictBy h input (Illegal place expected)) (sym headed) (subst (λ (x : List ℕ). IsVerdictAfter told new.headed x (Illegal place expected)) (sym is) goes)
+    subst (λ (h : Header). IsVerdictBy h input (Illegal place expected)) (sym headed)
+    (subst (λ (x : List ℕ). IsVerdictAfter told new.headed x (Illegal place expected)) (sym is) goes)
 found_after input body told front new (Some (Malformed at)) headed is few goes =
-    subst (λ (h : Header). IsVerdictBy h input (Malformed at)) (sym headed) (subst (λ (x : List ℕ). IsVerdictAfter told new.headed x (Malformed at)) (sym is) goes)
+    subst (λ (h : Header). IsVerdictBy h input (Malformed at)) (sym headed) (subst (λ (x : List ℕ). IsVerdictAfter told new.headed x (Malformed at))
+    (sym is) goes)
 
 -- a piece more, after a header
-pub after_header : HeaderGoesOn → (input piece front : List ℕ) (old new : BodyState) (found : Option Verdict) → IsTaking input (record { front = front; body = Some old }) → TakesBody piece old new found
+pub after_header : HeaderGoesOn → (input piece front : List ℕ) (old new : BodyState) (found : Option Verdict) →
+    IsTaking input (record { front = front; body = Some old }) → TakesBody piece old new found
     → length (input ++ piece) < 2 ^ 64 → IsFound (input ++ piece) (record { front = front; body = Some new }) found
 after_header on input piece front old new found t takes few =
     let told = t.by.0 in
@@ -44,11 +48,13 @@ after_header on input piece front old new found t takes few =
     found_after (input ++ piece) (drop old.headed input ++ piece) told front new found headed all few (takes.goes told (drop old.headed input) t.by.2 short)
 
 -- a piece more, where a header was met
-pub taken_after : HeaderGoesOn → (input piece front : List ℕ) (old new : Option BodyState) (found : Option Verdict) → IsTaking input (record { front = front; body = old }) → TakesAfter piece old new found
+pub taken_after : HeaderGoesOn → (input piece front : List ℕ) (old new : Option BodyState) (found : Option Verdict) →
+    IsTaking input (record { front = front; body = old }) → TakesAfter piece old new found
     → length (input ++ piece) < 2 ^ 64 → IsFound (input ++ piece) (record { front = front; body = new }) found
 taken_after on input piece front old new found t takes few =
     subst (λ (b : Option BodyState). IsFound (input ++ piece) (record { front = front; body = b }) found) (sym takes.new_is)
-    (after_header on input piece front takes.before takes.after found (subst (λ (b : Option BodyState). IsTaking input (record { front = front; body = b })) takes.old_is t) takes.takes few)
+    (after_header on input piece front takes.before takes.after found
+    (subst (λ (b : Option BodyState). IsTaking input (record { front = front; body = b })) takes.old_is t) takes.takes few)
 
 -- where no header is whole, all bytes are kept
 pub all_kept : (input front : List ℕ) (body : Option BodyState) → IsTaking input (record { front = front; body = body }) → is_some body ≡ false → front ≡ input
@@ -64,8 +70,10 @@ none_judging told headed = record {
 }
 
 -- the bytes of a header that ends in a piece, and the rest of the piece
-pub header_ends : HeaderGoesOn → (input piece front rest : List ℕ) (told : ToldLimits) (headed : ℕ) (new : BodyState) (found : Option Verdict) → header (input ++ piece) ≡ Headed told headed
-    → rest ≡ drop headed (input ++ piece) → TakesBody rest (fresh_body told headed) new found → length (input ++ piece) < 2 ^ 64 → IsFound (input ++ piece) (record { front = front; body = Some new }) found
+pub header_ends : HeaderGoesOn → (input piece front rest : List ℕ) (told : ToldLimits) (headed : ℕ) (new : BodyState) (found : Option Verdict) →
+    header (input ++ piece) ≡ Headed told headed
+    → rest ≡ drop headed (input ++ piece) → TakesBody rest (fresh_body told headed) new found → length (input ++ piece) < 2 ^ 64 →
+    IsFound (input ++ piece) (record { front = front; body = Some new }) found
 header_ends on input piece front rest told headed new found is after takes few =
     let on_from = subst (λ (h : Header). GoesOn (length (input ++ piece)) h (header ((input ++ piece) ++ []))) is (on (input ++ piece) []) in
     let long : headed ≤ length (input ++ piece) = on_from.1 in
@@ -80,7 +88,8 @@ small_told tells bytes told headed is = subst (λ (h : Header). TellsLimits h) i
 
 -- ---- the end
 
-abbrev ends_legal : (told : ToldLimits) (body : List ℕ) (b : BodyState) → IsJudging told body b → length body < 2 ^ 64 → IsLegal told body b.judge.place (length b.decoder.held)
+abbrev ends_legal : (told : ToldLimits) (body : List ℕ) (b : BodyState) → IsJudging told body b → length body < 2 ^ 64 →
+    IsLegal told body b.judge.place (length b.decoder.held)
 ends_legal told body b j short =
     let are = are_frames j.records j.given.text j.given.frames in
     let few : length j.records ≤ length body =
@@ -102,13 +111,15 @@ pub ends_after : (input front : List ℕ) (b : BodyState) → IsTaking input (re
     → IsFinding input (record { verdict = Legal b.judge.place (length b.decoder.held); ending = b.judge.ending })
 ends_after input front b t =
     let legal = ends_legal t.by.0 (drop b.headed input) b t.by.2 (let few = t.few in omega (arith, few, length-drop b.headed input)) in
-    let ends : EndsWith t.by.0 (drop b.headed input) b.judge.place (length b.decoder.held) b.judge.ending = record { legal = legal; ending_is = t.by.2.judged.ending } in
+    let ends : EndsWith t.by.0 (drop b.headed input) b.judge.place (length b.decoder.held) b.judge.ending =
+    record { legal = legal; ending_is = t.by.2.judged.ending } in
     record {
       verdict = subst (λ (h : Header). IsVerdictBy h input (Legal b.judge.place (length b.decoder.held))) (sym t.by.1) legal;
       ending = subst (λ (h : Header). EndsBy h input b.judge.place (length b.decoder.held) b.judge.ending) (sym t.by.1) ends;
     }
 
-pub ends_within : (input front : List ℕ) → IsTaking input (record { front = front; body = None }) → IsFinding input (record { verdict = Legal 0 (length front); ending = Open })
+pub ends_within : (input front : List ℕ) → IsTaking input (record { front = front; body = None }) →
+    IsFinding input (record { verdict = Legal 0 (length front); ending = Open })
 ends_within input front t = record {
   verdict = subst (λ (h : Header). IsVerdictBy h input (Legal 0 (length front))) (sym t.by.0) (ap (λ (x : List ℕ). Legal 0 (length x)) t.by.1);
   ending = subst (λ (h : Header). EndsBy h input 0 (length front) Open) (sym t.by.0) refl;

@@ -31,7 +31,8 @@ legal_from-front : (bounds : Bounds) (w : World) (h more : List Record) → lega
 legal_from-front bounds w [] more l = tt
 legal_from-front bounds w (r ∷ h) more l = (l.0, legal_from-front bounds (after bounds w r) h more l.1)
 
-ends_from-front : (bounds : Bounds) (most : Option ℕ) (w : World) (len : ℕ) (h more : List Record) → CanEndFrom bounds most w len (h ++ more) → CanEndFrom bounds most w len h
+ends_from-front : (bounds : Bounds) (most : Option ℕ) (w : World) (len : ℕ) (h more : List Record) → CanEndFrom bounds most w len (h ++ more) →
+    CanEndFrom bounds most w len h
 ends_from-front bounds most w len [] more l = tt
 ends_from-front bounds most w len (r ∷ h) more l = (l.0, ends_from-front bounds most (after bounds w r) (len + 1) h more l.1)
 
@@ -59,7 +60,8 @@ number_long : (n : ℕ) → length (number_bytes w32 n) ≡ 4
 unfolding number_bytes
 number_long n = refl
 
-told_is : (payload others bytes left : List ℕ) → length payload < 2 ^ 32 → frame payload ++ others ≡ bytes ++ left → 4 ≤ length bytes → told_length bytes ≡ length payload
+told_is : (payload others bytes left : List ℕ) → length payload < 2 ^ 32 → frame payload ++ others ≡ bytes ++ left → 4 ≤ length bytes →
+    told_length bytes ≡ length payload
 unfolding number_bytes
 told_is payload others bytes left few e four =
     let head : take 4 bytes ≡ number_bytes w32 (length payload) =
@@ -67,7 +69,8 @@ told_is payload others bytes left few e four =
     ∙ take_at (number_bytes w32 (length payload)) (payload ++ others) 4 (number_long (length payload)) in
     ap (from_be_bytes w32) head ∙ from_be_bytes-to_be_bytes_4 (length payload) few
 
-unfinished : (r : Record) (others bytes left : List ℕ) → HasFrame r → frame (record_bytes r) ++ others ≡ bytes ++ left → length bytes < length (frame (record_bytes r)) → IsUnfinished bytes
+unfinished : (r : Record) (others bytes left : List ℕ) → HasFrame r → frame (record_bytes r) ++ others ≡ bytes ++ left →
+    length bytes < length (frame (record_bytes r)) → IsUnfinished bytes
 unfinished r others bytes left f e below = elim (order (length bytes) 4) [
   | inl few ↦ inl few
   | inr four ↦
@@ -95,12 +98,14 @@ none_there : (b : Bool) (m : ℕ) → b ≡ false → cond b m 0 ≡ 0
 none_there false m is = refl
 none_there true m is = absurd cc
 
-cut_after : (r : Record) (h : List Record) (bytes left : List ℕ) → frame (record_bytes r) ++ frames_of h ≡ bytes ++ left → leb (length (frame (record_bytes r))) (length bytes) ≡ true
+cut_after : (r : Record) (h : List Record) (bytes left : List ℕ) → frame (record_bytes r) ++ frames_of h ≡ bytes ++ left →
+    leb (length (frame (record_bytes r))) (length bytes) ≡ true
     → Cut h (drop (length (frame (record_bytes r))) bytes) → Cut (r ∷ h) bytes
 cut_after r h bytes left e is c =
     let first = frame (record_bytes r) in
     let parts = split first (frames_of h) bytes left (leb-true (length first) (length bytes) is) e in
-    let long : whole_in h (length bytes - length first) ≡ whole_in h (length (drop (length first) bytes)) = ap (λ (n : ℕ). whole_in h n) (sym (length-drop (length first) bytes)) in
+    let long : whole_in h (length bytes - length first) ≡ whole_in h (length (drop (length first) bytes)) =
+    ap (λ (n : ℕ). whole_in h n) (sym (length-drop (length first) bytes)) in
     record {
       whole = r ∷ c.whole;
       more = c.more;
@@ -108,7 +113,11 @@ cut_after r h bytes left e is c =
       is = ap (λ (l : List Record). r ∷ l) c.is;
       bytes_are = parts.0 ∙ ap (λ (x : List ℕ). first ++ x) c.bytes_are ∙ sym (append_assoc first (frames_of c.whole) c.rest);
       short = c.short;
-      count = omega (arith, one_more (leb (length first) (length bytes)) (whole_in h (length bytes - length first)) (whole_in h (length (drop (length first) bytes))) (length c.whole) is long c.count);
+      count = omega (
+        arith,
+        one_more (leb (length first) (length bytes)) (whole_in h (length bytes - length first))
+            (whole_in h (length (drop (length first) bytes))) (length c.whole) is long c.count,
+      );
     }
 
 cut_at : (b : Bool) (r : Record) (h : List Record) (bytes left : List ℕ) → HasFrame r → frame (record_bytes r) ++ frames_of h ≡ bytes ++ left
@@ -127,7 +136,16 @@ cut_at false r h bytes left f e cuts is = record {
 }
 
 cut : (h : List Record) (bytes left : List ℕ) → HaveFrames h → frames_of h ≡ bytes ++ left → Cut h bytes
-cut [] bytes left f e = record { whole = []; more = []; rest = bytes; is = refl; bytes_are = refl; short = inl (omega (arith, ap length e, length-append bytes left)); count = refl }
+cut [] bytes left f e = record {
+  whole = [];
+  more = [];
+  rest = bytes;
+  is = refl;
+  bytes_are = refl;
+  short =
+      inl (omega (arith, ap length e, length-append bytes left));
+  count = refl;
+}
 cut (r ∷ h) bytes left f e =
     cut_at (leb (length (frame (record_bytes r))) (length bytes)) r h bytes left f.0 (e) (λ others is. cut h others left f.1 is) refl
 
@@ -145,7 +163,8 @@ unbegun : (h : List Record) (bytes : List ℕ) → IsFrontWithin bytes → IsVer
 unbegun h bytes within =
     let none : length bytes - HEADER_2_LENGTH ≡ 0 = omega (arith, within.few) in
     let count : whole_in h (length bytes - HEADER_2_LENGTH) ≡ 0 = ap (λ (n : ℕ). whole_in h n) none ∙ none_whole h in
-    subst (λ (x : Header). IsVerdictBy x bytes (Legal (whole_in h (length bytes - HEADER_2_LENGTH)) (length bytes))) (sym within.short) (ap (λ (n : ℕ). Legal n (length bytes)) count)
+    subst (λ (x : Header). IsVerdictBy x bytes (Legal (whole_in h (length bytes - HEADER_2_LENGTH)) (length bytes))) (sym within.short)
+    (ap (λ (n : ℕ). Legal n (length bytes)) count)
 
 begun : (told : ToldLimits) (h : List Record) (bytes left : List ℕ) → IsLegalRun told.bounds told.records h → HaveFrames h → IsFrontAfter told h bytes left
     → (rest : ℕ) × IsVerdict bytes (Legal (whole_in h (length bytes - HEADER_2_LENGTH)) rest)

@@ -28,4 +28,5 @@ pub record HasJudged (told : ToldLimits) (h : List Record) (j : JudgeState) : Ty
 -- one record more, after whatever was judged: it is legal there too, or breaks what is legal, where this was expected
 abbrev pub JudgesNext : JudgeState → JudgeState → Record → Option Outcome → Bool → Type 0
 JudgesNext old new r expected true = (told : ToldLimits) (h : List Record) → HasJudged told h old → length h < 2 ^ 64 → HasJudged told (h ++ r ∷ []) new
-JudgesNext old new r expected false = (told : ToldLimits) (h : List Record) → HasJudged told h old → length h < 2 ^ 64 → BreaksAt told (h ++ r ∷ []) new.place expected
+JudgesNext old new r expected false = (told : ToldLimits) (h : List Record) → HasJudged told h old → length h < 2 ^ 64 →
+    BreaksAt told (h ++ r ∷ []) new.place expected

@@ -16,10 +16,12 @@ use Rattle.job_core.specs.declared.shown.Form.{Form}
 unknown_judged : (input : Option (List ℕ)) (found : Finding) → IsFoundOn input found → IsFoundOn None found
 unknown_judged input found j = record { bytes = j.bytes; whole = tt; is_finding = j.is_finding }
 
-unknown_verdict : (wanted : Demand) (input : Option (List ℕ)) (old new : LoggedWriterState) (end : JobEnd) → WritesVerdict wanted input old new end → WritesVerdict wanted None old new end
+unknown_verdict : (wanted : Demand) (input : Option (List ℕ)) (old new : LoggedWriterState) (end : JobEnd) → WritesVerdict wanted input old new end →
+    WritesVerdict wanted None old new end
 unknown_verdict wanted input old new end w = record { found = w.found; judged = unknown_judged input w.found w.judged; writes = w.writes; end_is = w.end_is }
 
-unknown_audit : (wanted : Demand) (input : Option (List ℕ)) (old new : LoggedWriterState) (end : JobEnd) → AuditEnds wanted input old new end → AuditEnds wanted None old new end
+unknown_audit : (wanted : Demand) (input : Option (List ℕ)) (old new : LoggedWriterState) (end : JobEnd) → AuditEnds wanted input old new end →
+    AuditEnds wanted None old new end
 unknown_audit wanted input old new ended.Done a = unknown_verdict wanted input old new ended.Done a
 unknown_audit wanted input old new ended.Incomplete a = unknown_verdict wanted input old new ended.Incomplete a
 unknown_audit wanted input old new ended.NothingJudged a = unknown_verdict wanted input old new ended.NothingJudged a
@@ -30,7 +32,8 @@ unknown_audit wanted input old new ended.CannotRead a = a
 unknown_audit wanted input old new ended.NoMemory a = a
 unknown_audit wanted input old new other a = absurd a
 
-pub audit_of : (wanted : Demand) (known input : Option (List ℕ)) (old new : LoggedWriterState) (end : JobEnd) → Has known input → AuditEnds wanted input old new end → AuditEnds wanted known old new end
+pub audit_of : (wanted : Demand) (known input : Option (List ℕ)) (old new : LoggedWriterState) (end : JobEnd) → Has known input →
+    AuditEnds wanted input old new end → AuditEnds wanted known old new end
 audit_of wanted None input old new end has a = unknown_audit wanted input old new end a
 audit_of wanted (Some bytes) input old new end has a = subst (λ (i : Option (List ℕ)). AuditEnds wanted i old new end) has a
 
@@ -42,7 +45,8 @@ unknown_all input P a = record { bytes = a.bytes; is = tt; holds = a.holds }
 unknown_front : (input : Option (List ℕ)) (P : List ℕ → Type 0) → OfFront input P → OfFront None P
 unknown_front input P a = record { bytes = a.bytes; more = a.more; is = tt; holds = a.holds }
 
-unknown_show : (form : Form) (input : Option (List ℕ)) (old new : LoggedWriterState) (end : JobEnd) → ShowEnds form input old new end → ShowEnds form None old new end
+unknown_show : (form : Form) (input : Option (List ℕ)) (old new : LoggedWriterState) (end : JobEnd) → ShowEnds form input old new end →
+    ShowEnds form None old new end
 unknown_show form input old new ended.Done a = unknown_all input _ a
 unknown_show form input old new (ended.Rest left) a = (a.0, unknown_all input _ a.1)
 unknown_show form input old new (ended.Malformed at) a = unknown_all input _ a
@@ -51,7 +55,8 @@ unknown_show form input old new ended.NoMemory a = unknown_front input _ a
 unknown_show form input old new ended.CannotWrite a = unknown_front input _ a
 unknown_show form input old new other a = absurd a
 
-pub show_of : (form : Form) (known input : Option (List ℕ)) (old new : LoggedWriterState) (end : JobEnd) → Has known input → ShowEnds form input old new end → ShowEnds form known old new end
+pub show_of : (form : Form) (known input : Option (List ℕ)) (old new : LoggedWriterState) (end : JobEnd) → Has known input → ShowEnds form input old new end →
+    ShowEnds form known old new end
 show_of form None input old new end has a = unknown_show form input old new end a
 show_of form (Some bytes) input old new end has a = subst (λ (i : Option (List ℕ)). ShowEnds form i old new end) has a
 

@@ -21,15 +21,24 @@ use Rattle.job_core.specs.declared.job_end.JobEnd.TheVariants as ended
 -- ---- a run with a report
 
 -- a report's line that is written whole, by how the run ended
-written_by : (asked : RunAsked) (sink : SinkState) (old new : LoggedWriterState) (told : RunTold) (line : List ℕ) → IsToldOf asked sink told → IsRun told → length told.ends ≤ asked.sessions
+written_by : (asked : RunAsked) (sink : SinkState) (old new : LoggedWriterState) (told : RunTold) (line : List ℕ) → IsToldOf asked sink told → IsRun told →
+    length told.ends ≤ asked.sessions
     → line ≡ report_line (length told.ends) told.records told.taken told.given told.trace.whole → Writes old new line
     → Reported asked sink old new (end_of_run (length told.ends) asked.sessions told.trace.fault (lacks_a_thread told.ends))
-written_by asked sink old new told line is_of run few is writes_line = go (nat_lt (length told.ends) asked.sessions) told.trace.fault (lacks_a_thread told.ends) refl
+written_by asked sink old new told line is_of run few is writes_line = go (nat_lt (length told.ends) asked.sessions) told.trace.fault
+    (lacks_a_thread told.ends) refl
   where
-    writes : (end : JobEnd) → end ≡ end_of_run (length told.ends) asked.sessions told.trace.fault (lacks_a_thread told.ends) → WritesReport asked sink old new end
-    writes end so = record { line = line; report = record { told = told; is_of = is_of; run = run; few = few; line_is = is; end_is = so }; writes = writes_line }
+    writes : (end : JobEnd) → end ≡ end_of_run (length told.ends) asked.sessions told.trace.fault (lacks_a_thread told.ends) →
+        WritesReport asked sink old new end
+    writes end so = record {
+      line = line;
+      report = record { told = told; is_of = is_of; run = run; few = few; line_is = is; end_is = so };
+      writes =
+          writes_line;
+    }
 
-    go : (fewer : Bool) (fault : Option TraceFault) (lacks : Bool) → cond fewer ended.CannotListen (traced_end fault lacks) ≡ end_of_run (length told.ends) asked.sessions told.trace.fault (lacks_a_thread told.ends)
+    go : (fewer : Bool) (fault : Option TraceFault) (lacks : Bool) → cond fewer ended.CannotListen (traced_end fault lacks) ≡ end_of_run
+        (length told.ends) asked.sessions told.trace.fault (lacks_a_thread told.ends)
         → Reported asked sink old new (end_of_run (length told.ends) asked.sessions told.trace.fault (lacks_a_thread told.ends))
     go true fault lacks e = subst (Reported asked sink old new) e (writes ended.CannotListen e)
     go false None true e = subst (Reported asked sink old new) e (writes ended.NoThread e)
@@ -37,9 +46,11 @@ written_by asked sink old new told line is_of run few is writes_line = go (nat_l
     go false (Some fault) lacks e = subst (Reported asked sink old new) e (writes ended.TraceFault e)
 
 -- what became of the line of a report
-pub reported : (asked : RunAsked) (sink : SinkState) (old new : LoggedWriterState) (told : RunTold) (sessions : ℕ) (end : JobEnd) → IsToldOf asked sink told → IsRun told
+pub reported : (asked : RunAsked) (sink : SinkState) (old new : LoggedWriterState) (told : RunTold) (sessions : ℕ) (end : JobEnd) → IsToldOf asked sink told →
+    IsRun told
     → sessions ≡ length told.ends → sessions ≤ asked.sessions
-    → WritesLine (report_line sessions told.records told.taken told.given told.trace.whole) (end_of_run sessions asked.sessions told.trace.fault (lacks_a_thread told.ends)) old new end
+    → WritesLine (report_line sessions told.records told.taken told.given told.trace.whole)
+    (end_of_run sessions asked.sessions told.trace.fault (lacks_a_thread told.ends)) old new end
     → Reported asked sink old new end
 reported asked sink old new told sessions end is_of run all few (inl (so, appends)) =
     subst (Reported asked sink old new) (sym (so ∙ ap (λ (n : ℕ). end_of_run n asked.sessions told.trace.fault (lacks_a_thread told.ends)) all))
@@ -62,10 +73,12 @@ reported asked sink old new told sessions end is_of run all few (inr (inl (canno
 reported asked sink old new told sessions end is_of run all few (inr (inr (memory, same))) = subst (Reported asked sink old new) (sym memory) same
 
 -- it says that the source cannot listen only where a connection was wanting
-pub lost_connection : (line : List ℕ) (old new : LoggedWriterState) (sessions wanted before after : ℕ) (fault : Option TraceFault) (lacks : Bool) (end : JobEnd) → FailsIfFewer sessions wanted before after
+pub lost_connection : (line : List ℕ) (old new : LoggedWriterState) (sessions wanted before after : ℕ) (fault : Option TraceFault) (lacks : Bool)
+    (end : JobEnd) → FailsIfFewer sessions wanted before after
     → WritesLine line (end_of_run sessions wanted fault lacks) old new end → end ≡ ended.CannotListen → after ≡ before + 1
 lost_connection line old new sessions wanted before after fault lacks end (inr fewer) w is = fewer.1
-lost_connection line old new sessions wanted before after fault lacks end (inl full) (inl (so, appends)) is = absurd (not_short sessions wanted fault lacks full.0 (sym so ∙ is))
+lost_connection line old new sessions wanted before after fault lacks end (inl full) (inl (so, appends)) is =
+    absurd (not_short sessions wanted fault lacks full.0 (sym so ∙ is))
   where
     not_short : (n m : ℕ) (f : Option TraceFault) (lacks : Bool) → n ≡ m → end_of_run n m f lacks ≡ ended.CannotListen → ⊥
     not_short n m f lacks same e = go (nat_lt n m) f lacks refl e
@@ -75,8 +88,10 @@ lost_connection line old new sessions wanted before after fault lacks end (inl f
         go false None true below e = cc
         go false None false below e = cc
         go false (Some fault) lacks below e = cc
-lost_connection line old new sessions wanted before after fault lacks end (inl full) (inr (inl (cannot, front))) is = let bad : ended.CannotWrite ≡ ended.CannotListen = sym cannot ∙ is in cc
-lost_connection line old new sessions wanted before after fault lacks end (inl full) (inr (inr (memory, same))) is = let bad : ended.NoMemory ≡ ended.CannotListen = sym memory ∙ is in cc
+lost_connection line old new sessions wanted before after fault lacks end (inl full) (inr (inl (cannot, front))) is =
+    let bad : ended.CannotWrite ≡ ended.CannotListen = sym cannot ∙ is in cc
+lost_connection line old new sessions wanted before after fault lacks end (inl full) (inr (inr (memory, same))) is =
+    let bad : ended.NoMemory ≡ ended.CannotListen = sym memory ∙ is in cc
 
 -- ---- a run without one
 
@@ -158,14 +173,19 @@ lacked n m f lacks e = go (nat_lt n m) f lacks e
     go false (Some fault) lacks e = absurd cc
 
 -- the same, by what became of the line of its report
-pub session_lacked : (line : List ℕ) (old new : LoggedWriterState) (sessions wanted : ℕ) (fault : Option TraceFault) (ends : List ReportedSession) (before : ℕ) (end : JobEnd)
+pub session_lacked : (line : List ℕ) (old new : LoggedWriterState) (sessions wanted : ℕ) (fault : Option TraceFault) (ends : List ReportedSession) (before : ℕ)
+    (end : JobEnd)
     → WritesLine line (end_of_run sessions wanted fault (lacks_a_thread ends)) old new end → end ≡ ended.NoThread → one_more before ≤ failures_with ends before
-session_lacked line old new sessions wanted fault ends before end (inl (so, appends)) is = lack_counts ends before (lacked sessions wanted fault (lacks_a_thread ends) (sym so ∙ is))
-session_lacked line old new sessions wanted fault ends before end (inr (inl (cannot, front))) is = let bad : ended.CannotWrite ≡ ended.NoThread = sym cannot ∙ is in absurd cc
-session_lacked line old new sessions wanted fault ends before end (inr (inr (memory, same))) is = let bad : ended.NoMemory ≡ ended.NoThread = sym memory ∙ is in absurd cc
+session_lacked line old new sessions wanted fault ends before end (inl (so, appends)) is =
+    lack_counts ends before (lacked sessions wanted fault (lacks_a_thread ends) (sym so ∙ is))
+session_lacked line old new sessions wanted fault ends before end (inr (inl (cannot, front))) is = let bad : ended.CannotWrite ≡ ended.NoThread = sym cannot ∙
+    is in absurd cc
+session_lacked line old new sessions wanted fault ends before end (inr (inr (memory, same))) is = let bad : ended.NoMemory ≡ ended.NoThread = sym memory ∙ is in
+    absurd cc
 
 -- a run without a report ends so only where a thread of its own was wanting
-pub thread_lacked : (told : RunFault) (ends : List ReportedSession) (n : ℕ) → end_without_report told ≡ ended.NoThread → one_more n ≤ failures_with ends (failures_by told n)
+pub thread_lacked : (told : RunFault) (ends : List ReportedSession) (n : ℕ) → end_without_report told ≡ ended.NoThread →
+    one_more n ≤ failures_with ends (failures_by told n)
 thread_lacked fault.NoThread ends n is = count_stays ends (one_more n) (one_more n) (omega arith) (omega arith)
 thread_lacked fault.NoMemory ends n is = absurd cc
 thread_lacked fault.Missing ends n is = absurd cc

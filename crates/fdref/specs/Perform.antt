@@ -43,7 +43,8 @@ ListenEnds coming is_unheard limits sessions old new end = IsServed coming limit
 
 -- the same, or the file of the trace could not be made
 abbrev pub ServeEnds : Option (List Streams) → Type 0 → Type 0 → Limits → ℕ → LoggedWriterState → LoggedWriterState → JobEnd → Type 0
-ServeEnds coming is_unheard is_unmade limits sessions old new end = ListenEnds coming is_unheard limits sessions old new end ⊎ IsUnserved is_unmade ended.CannotWrite old new end
+ServeEnds coming is_unheard is_unmade limits sessions old new end =
+    ListenEnds coming is_unheard limits sessions old new end ⊎ IsUnserved is_unmade ended.CannotWrite old new end
 
 -- a new file, which held nothing, was written from a trace, and a line that tells of it
 pub record IsMoved (input : Option (List ℕ)) (old new : LoggedWriterState) (end : JobEnd) : Type 0 where
@@ -72,7 +73,8 @@ pub record Surroundings : Type 1 where
 abbrev pub Performs : Surroundings → Job → Option (List ℕ) → LoggedWriterState → LoggedWriterState → JobEnd → Type 0
 Performs round (job.Replay limits how) input old new end = ReplayEnds limits how input old new end
 Performs round (job.Serve socket sessions limits trace) input old new end =
-    ServeEnds (round.coming_at (string_bytes socket)) (round.is_unheard (string_bytes socket)) (round.is_unmade (string_bytes trace)) limits sessions old new end
+    ServeEnds (round.coming_at (string_bytes socket)) (round.is_unheard (string_bytes socket)) (round.is_unmade (string_bytes trace)) limits sessions old new
+    end
 Performs round (job.Outcomes limits most how) input old new end = OutcomesEnd limits most how input old new end
 Performs round (job.Audit path wanted) input old new end = AuditEnds wanted (round.bytes_at (string_bytes path)) old new end
 Performs round (job.Show path form) input old new end = ShowEnds form (round.bytes_at (string_bytes path)) old new end

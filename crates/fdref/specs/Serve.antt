@@ -15,7 +15,8 @@ use Rattle.job_core.specs.declared.job_end.JobEnd.TheVariants as ended
 -- the line that reports a run: how many sessions were started, the totals of its book, and how many records are whole in its trace
 abbrev pub report_line : ℕ → ℕ → ℕ → ℕ → ℕ → List ℕ
 report_line sessions records taken given whole =
-    codes "sessions " ++ (decimal sessions ++ (codes " records " ++ (decimal records ++ (codes " in " ++ (decimal taken ++ (codes " out " ++ (decimal given ++ (codes " trace " ++ (decimal whole ++ codes "\n")))))))))
+    codes "sessions " ++ (decimal sessions ++ (codes " records " ++
+    (decimal records ++ (codes " in " ++ (decimal taken ++ (codes " out " ++ (decimal given ++ (codes " trace " ++ (decimal whole ++ codes "\n")))))))))
 
 -- what a sink holds, where that is known, how often it failed, and whether it was synced after the last write
 pub record SinkState : Type 0 where

@@ -23,9 +23,11 @@ over_same f g s new p same = rw same refl
 -- the front of new bytes, and then what is behind it
 pub over_over : (f : ℕ → ℕ) (s m : ℕ) (new : List ℕ) (p : ℕ) → m ≤ length new → over (over f s (take m new)) (s + m) (drop m new) p ≡ over f s new p
 over_over f s m new p le = elim (cases_lt p s) [
-  | inl below ↦ over_below (over f s (take m new)) (s + m) (drop m new) p (omega arith) ∙ (over_below f s (take m new) p below ∙ sym (over_below f s new p below))
+  | inl below ↦ over_below (over f s (take m new)) (s + m) (drop m new) p (omega arith) ∙
+      (over_below f s (take m new) p below ∙ sym (over_below f s new p below))
   | inr from ↦ elim (cases_lt p (s + m)) [
-    | inl below ↦ over_below (over f s (take m new)) (s + m) (drop m new) p below ∙ (over_from f s (take m new) p from ∙ (get_or-take m new (p - s) (f p) (omega arith) ∙ sym (over_from f s new p from)))
+    | inl below ↦ over_below (over f s (take m new)) (s + m) (drop m new) p below ∙
+        (over_from f s (take m new) p from ∙ (get_or-take m new (p - s) (f p) (omega arith) ∙ sym (over_from f s new p from)))
     | inr past ↦
         let front : over f s (take m new) p ≡ f p = over_past f s (take m new) p (omega (arith, length-take m new)) in
         let there : m + (p - (s + m)) ≡ p - s = omega arith in

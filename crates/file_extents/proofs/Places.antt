@@ -64,14 +64,18 @@ is_contents len F xs long each = ext_get_or 0 (contents len F) xs (length_conten
     (λ i below. let within : i < len = omega (arith, below, length_contents len F) in contents_within len F i within ∙ sym (each i within))
 
 -- a write
-pub spliced : (len after s : ℕ) (new : List ℕ) (F G : ℕ → ChunkState) → ZeroFrom len F → IsOver s new F G → after ≡ (s + length new) + (len - (s + length new)) →
+pub spliced : (len after s : ℕ) (new : List ℕ) (F G : ℕ → ChunkState) → ZeroFrom len F → IsOver s new F G →
+    after ≡ (s + length new) + (len - (s + length new)) →
     contents after G ≡ splice (contents len F) s new
 spliced len after s new F G zeros is long = is_contents after G (splice (contents len F) s new)
     (omega (arith, long, length_splice (contents len F) s new, length_contents len F))
-    (λ i below. splice_place (contents len F) s new i ∙ (over_same (λ j. get_or (contents len F) j 0) (byte_of F) s new i (contents_place len F i zeros) ∙ sym (is.bytes i)))
+    (λ i below. splice_place (contents len F) s new i ∙ (over_same (λ j. get_or (contents len F) j 0) (byte_of F) s new i (contents_place len F i zeros) ∙
+    sym (is.bytes i)))
 
-pub spliced_zero : (len after s : ℕ) (new : List ℕ) (F G : ℕ → ChunkState) → ZeroFrom len F → IsOver s new F G → len ≤ after → s + length new ≤ after → ZeroFrom after G
-spliced_zero len after s new F G zeros is more far = record { zero = λ p past. is.bytes p ∙ (over_past (byte_of F) s new p (omega arith) ∙ zeros.zero p (omega arith)) }
+pub spliced_zero : (len after s : ℕ) (new : List ℕ) (F G : ℕ → ChunkState) → ZeroFrom len F → IsOver s new F G → len ≤ after → s + length new ≤ after →
+    ZeroFrom after G
+spliced_zero len after s new F G zeros is more far =
+    record { zero = λ p past. is.bytes p ∙ (over_past (byte_of F) s new p (omega arith) ∙ zeros.zero p (omega arith)) }
 
 -- nothing new
 pub no_part : (s : ℕ) (new : List ℕ) (F : ℕ → ChunkState) → length new ≡ 0 → IsOver s new F F
@@ -91,9 +95,11 @@ places_both x y z first second = record {
 }
 
 -- a write in two parts
-pub two_parts : (s m : ℕ) (new : List ℕ) (F G H : ℕ → ChunkState) → m ≤ length new → IsOver s (take m new) F G → IsOver (s + m) (drop m new) G H → IsOver s new F H
+pub two_parts : (s m : ℕ) (new : List ℕ) (F G H : ℕ → ChunkState) → m ≤ length new → IsOver s (take m new) F G → IsOver (s + m) (drop m new) G H →
+    IsOver s new F H
 two_parts s m new F G H le first second = record {
-  bytes = λ p. second.bytes p ∙ (over_same (byte_of G) (over (byte_of F) s (take m new)) (s + m) (drop m new) p (first.bytes p) ∙ over_over (byte_of F) s m new p le);
+  bytes = λ p. second.bytes p ∙ (over_same (byte_of G) (over (byte_of F) s (take m new)) (s + m) (drop m new) p (first.bytes p) ∙
+      over_over (byte_of F) s m new p le);
   room = λ k. places_both (F k) (G k) (H k) (first.room k) (second.room k);
 }
 
@@ -102,7 +108,8 @@ pub kept_byte : (F G : ℕ → ChunkState) (p : ℕ) → Keeps F G → byte_of G
 kept_byte F G p keeps = (keeps.bytes (p / 65536)).byte (p % 65536)
 
 pub kept_contents : (len : ℕ) (F G : ℕ → ChunkState) → Keeps F G → contents len G ≡ contents len F
-kept_contents len F G keeps = is_contents len G (contents len F) (length_contents len F) (λ i below. contents_within len F i below ∙ sym (kept_byte F G i keeps))
+kept_contents len F G keeps = is_contents len G (contents len F) (length_contents len F) (λ i below. contents_within len F i below ∙
+    sym (kept_byte F G i keeps))
 
 pub kept_zero : (len : ℕ) (F G : ℕ → ChunkState) → Keeps F G → ZeroFrom len F → ZeroFrom len G
 kept_zero len F G keeps zeros = record { zero = λ p past. kept_byte F G p keeps ∙ zeros.zero p past }
@@ -113,7 +120,8 @@ copied_contents len F G same = is_contents len G (contents len F) (length_conten
     (λ i below. contents_within len F i below ∙ sym (ap (λ b. get_or b (i % 65536) 0) (same (i / 65536))))
 
 -- what is past a length goes
-cut_last : (len : ℕ) (F G : ℕ → ChunkState) (p : ℕ) → Cuts (len / 65536) (len % 65536) F G → p / 65536 ≡ len / 65536 → byte_of G p ≡ get_or (take (len % 65536) (F (p / 65536)).bytes) (p % 65536) 0
+cut_last : (len : ℕ) (F G : ℕ → ChunkState) (p : ℕ) → Cuts (len / 65536) (len % 65536) F G → p / 65536 ≡ len / 65536 →
+    byte_of G p ≡ get_or (take (len % 65536) (F (p / 65536)).bytes) (p % 65536) 0
 cut_last len F G p cuts same = rw same (cuts.here (p % 65536))
 
 cut_before : (len : ℕ) (F G : ℕ → ChunkState) (p : ℕ) → Cuts (len / 65536) (len % 65536) F G → p < len → byte_of G p ≡ byte_of F p
@@ -162,7 +170,8 @@ pub window_is : (F : ℕ → ChunkState) (s n : ℕ) → s % 65536 + n ≤ 65536
 window_is F s n fits = ext_get_or 0 (window (F (s / 65536)).bytes (s % 65536) n) (bytes_from F s n)
     (length_window (F (s / 65536)).bytes (s % 65536) n ∙ sym (length-map-range_with_len (byte_of F) s n)) each
   where
-    each : (i : ℕ) → i < length (window (F (s / 65536)).bytes (s % 65536) n) → get_or (window (F (s / 65536)).bytes (s % 65536) n) i 0 ≡ get_or (bytes_from F s n) i 0
+    each : (i : ℕ) → i < length (window (F (s / 65536)).bytes (s % 65536) n) → get_or (window (F (s / 65536)).bytes (s % 65536) n) i 0 ≡ get_or
+        (bytes_from F s n) i 0
     each i below =
         let within : i < n = omega (arith, below, length_window (F (s / 65536)).bytes (s % 65536) n) in
         let chunk : (s + i) / 65536 ≡ s / 65536 = omega (arith, within, fits) in
@@ -171,7 +180,8 @@ window_is F s n fits = ext_get_or 0 (window (F (s / 65536)).bytes (s % 65536) n)
         window_place (F (s / 65536)).bytes (s % 65536) n i within ∙ (sym there ∙ sym (get_or-map-range_with_len (byte_of F) s n i (s + i) 0 within refl))
 
 pub bytes_joined : (F : ℕ → ChunkState) (s m n : ℕ) → m ≤ n → bytes_from F s m ++ bytes_from F (s + m) (n - m) ≡ bytes_from F s n
-bytes_joined F s m n le = ext_get_or 0 (bytes_from F s m ++ bytes_from F (s + m) (n - m)) (bytes_from F s n) (omega (arith, both, length-map-range_with_len (byte_of F) s n)) each
+bytes_joined F s m n le = ext_get_or 0 (bytes_from F s m ++ bytes_from F (s + m) (n - m)) (bytes_from F s n)
+    (omega (arith, both, length-map-range_with_len (byte_of F) s n)) each
   where
     front : length (bytes_from F s m) ≡ m
     front = length-map-range_with_len (byte_of F) s m
@@ -179,18 +189,21 @@ bytes_joined F s m n le = ext_get_or 0 (bytes_from F s m ++ bytes_from F (s + m)
     both : length (bytes_from F s m ++ bytes_from F (s + m) (n - m)) ≡ n
     both = omega (arith, front, length-append (bytes_from F s m) (bytes_from F (s + m) (n - m)), length-map-range_with_len (byte_of F) (s + m) (n - m))
 
-    each : (i : ℕ) → i < length (bytes_from F s m ++ bytes_from F (s + m) (n - m)) → get_or (bytes_from F s m ++ bytes_from F (s + m) (n - m)) i 0 ≡ get_or (bytes_from F s n) i 0
+    each : (i : ℕ) → i < length (bytes_from F s m ++ bytes_from F (s + m) (n - m)) → get_or (bytes_from F s m ++ bytes_from F (s + m) (n - m)) i 0 ≡ get_or
+        (bytes_from F s n) i 0
     each i below =
         let within : i < n = omega (arith, below, both) in
         let whole : get_or (bytes_from F s n) i 0 ≡ byte_of F (s + i) = get_or-map-range_with_len (byte_of F) s n i (s + i) 0 within refl in
         elim (cases_lt i m) [
-          | inl first ↦ get_or_append_left (bytes_from F s m) (bytes_from F (s + m) (n - m)) 0 i (omega (arith, front, first)) ∙ (get_or-map-range_with_len (byte_of F) s m i (s + i) 0 first refl ∙ sym whole)
+          | inl first ↦ get_or_append_left (bytes_from F s m) (bytes_from F (s + m) (n - m)) 0 i (omega (arith, front, first)) ∙
+              (get_or-map-range_with_len (byte_of F) s m i (s + i) 0 first refl ∙ sym whole)
           | inr second ↦ get_or-append_right (bytes_from F s m) (bytes_from F (s + m) (n - m)) m i 0 front second
               ∙ (get_or-map-range_with_len (byte_of F) (s + m) (n - m) (i - m) (s + i) 0 (omega (arith, second, within)) (omega (arith, second)) ∙ sym whole)
         ]
 
 -- at most n bytes from s on
-pub read_is : (F : ℕ → ChunkState) (len s n from count : ℕ) → from ≡ min s len → count ≡ min n (len - from) → bytes_from F from count ≡ bytes_at (contents len F) s n
+pub read_is : (F : ℕ → ChunkState) (len s n from count : ℕ) → from ≡ min s len → count ≡ min n (len - from) →
+    bytes_from F from count ≡ bytes_at (contents len F) s n
 read_is F len s n from count start many = ext_get_or 0 (bytes_from F from count) (bytes_at (contents len F) s n) (here ∙ sym there) each
   where
     here : length (bytes_from F from count) ≡ count
@@ -204,7 +217,8 @@ read_is F len s n from count start many = ext_get_or 0 (bytes_from F from count)
         let within : i < count = omega (arith, below, here) in
         let same : from ≡ s = omega (arith, start, many, within) in
         let read : get_or (bytes_at (contents len F) s n) i 0 ≡ byte_of F (s + i) =
-        get_or-take n (drop s (contents len F)) i 0 (omega (arith, many, within)) ∙ (get_or-drop s (contents len F) i 0 ∙ contents_within len F (s + i) (omega (arith, many, within, same))) in
+        get_or-take n (drop s (contents len F)) i 0 (omega (arith, many, within)) ∙
+        (get_or-drop s (contents len F) i 0 ∙ contents_within len F (s + i) (omega (arith, many, within, same))) in
         get_or-map-range_with_len (byte_of F) from count i (s + i) 0 within (omega (arith, same)) ∙ sym read
 
 -- in the first chunk a position is a place

@@ -15,16 +15,19 @@ room_there t s n has some fits = record { low = has.low s (omega arith) (omega a
         let place : (s + n - 1) % 65536 ≡ s % 65536 + n - 1 = omega arith in
         rw (chunk, place) at last
 
-pub room_goes : (t u : TableState) (s n start count : ℕ) → HasRoom t s n → ((k : ℕ) → KeepsPlaces (chunk_at t k) (chunk_at u k)) → s ≤ start → start + count ≤ s + n → HasRoom u start count
+pub room_goes : (t u : TableState) (s n start count : ℕ) → HasRoom t s n → ((k : ℕ) → KeepsPlaces (chunk_at t k) (chunk_at u k)) → s ≤ start →
+    start + count ≤ s + n → HasRoom u start count
 room_goes t u s n start count has keeps from till = record { low = low; high = high }
   where
     low : (p : ℕ) → start ≤ p → p < start + count → (chunk_at u (p / 65536)).low ≤ p % 65536
     low p above below =
-        (keeps (p / 65536)).low (p % 65536) (has.low p (omega (arith, above, from)) (omega (arith, below, till))) (has.high p (omega (arith, above, from)) (omega (arith, below, till)))
+        (keeps (p / 65536)).low (p % 65536) (has.low p (omega (arith, above, from)) (omega (arith, below, till)))
+        (has.high p (omega (arith, above, from)) (omega (arith, below, till)))
 
     high : (p : ℕ) → start ≤ p → p < start + count → p % 65536 < (chunk_at u (p / 65536)).high
     high p above below =
-        (keeps (p / 65536)).high (p % 65536) (has.low p (omega (arith, above, from)) (omega (arith, below, till))) (has.high p (omega (arith, above, from)) (omega (arith, below, till)))
+        (keeps (p / 65536)).high (p % 65536) (has.low p (omega (arith, above, from)) (omega (arith, below, till)))
+        (has.high p (omega (arith, above, from)) (omega (arith, below, till)))
 
 pub room_made : (t : TableState) (s n : ℕ) → s % 65536 + n ≤ 65536 → HasPlaces (chunk_at t (s / 65536)) (s % 65536) (s % 65536 + n) → HasRoom t s n
 room_made t s n fits made = record { low = low; high = high }

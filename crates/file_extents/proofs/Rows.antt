@@ -29,7 +29,11 @@ pub kept_if_same : (x y : ChunkState) → y ≡ x → KeepsPlaces x y
 kept_if_same x y same = record { low = λ i from till. rw same from; high = λ i from till. rw same till }
 
 no_room : (x y : ChunkState) → x ≡ no_chunk → KeepsPlaces x y
-no_room x y gone = let none : x.high ≡ 0 = rw gone refl in record { low = λ i from till. omega (arith, none, till); high = λ i from till. omega (arith, none, till) }
+no_room x y gone = let none : x.high ≡ 0 = rw gone refl in record {
+  low = λ i from till. omega (arith, none, till);
+  high =
+      λ i from till. omega (arith, none, till);
+}
 
 added_room : (row : List ChunkState) (c : ChunkState) (k : ℕ) → KeepsPlaces (chunk_in row k) (chunk_in (row ++ c ∷ []) k)
 added_room row c k = elim (cases_lt k (length row)) [
@@ -57,13 +61,15 @@ column_there row n s end has some = elim (cases_lt n (length row)) [
 ]
 
 -- an edit of one chunk of a row
-kept_if_edited : (row : List ChunkState) (n : ℕ) (c : ChunkState) (k : ℕ) → n < length row → KeepsPlaces (chunk_in row n) c → KeepsPlaces (chunk_in row k) (chunk_in (slice_set row n c) k)
+kept_if_edited : (row : List ChunkState) (n : ℕ) (c : ChunkState) (k : ℕ) → n < length row → KeepsPlaces (chunk_in row n) c →
+    KeepsPlaces (chunk_in row k) (chunk_in (slice_set row n c) k)
 kept_if_edited row n c k there keeps = elim (cases_eq k n) [
   | inl same ↦ rw (same, get_or-set_same row n c no_chunk there) keeps
   | inr apart ↦ kept_if_same (chunk_in row k) (chunk_in (slice_set row n c) k) (get_or-set_other row n k c no_chunk apart)
 ]
 
-pub edited_row : (row : List ChunkState) (n : ℕ) (c : ChunkState) (s : ℕ) (new : List ℕ) → n < length row → c.bytes ≡ splice (chunk_in row n).bytes s new → KeepsPlaces (chunk_in row n) c →
+pub edited_row : (row : List ChunkState) (n : ℕ) (c : ChunkState) (s : ℕ) (new : List ℕ) → n < length row → c.bytes ≡ splice (chunk_in row n).bytes s new →
+    KeepsPlaces (chunk_in row n) c →
     Edits s new n (chunk_in row) (chunk_in (slice_set row n c))
 edited_row row n c s new there is keeps = record {
   here = ap (λ x. x.bytes) (get_or-set_same row n c no_chunk there) ∙ is;
@@ -75,10 +81,12 @@ edited_row row n c s new there is keeps = record {
 pub copied_row : (xs ys : List ChunkState) → AllZip (λ x y. y.bytes ≡ x.bytes) xs ys → (k : ℕ) → (chunk_in ys k).bytes ≡ (chunk_in xs k).bytes
 copied_row xs ys zip k = elim (cases_lt k (length xs)) [
   | inl below ↦ AllZip-get_or (λ x y. y.bytes ≡ x.bytes) xs ys k no_chunk no_chunk zip below
-  | inr past ↦ ap (λ x. x.bytes) (get_or_past ys k no_chunk (omega (arith, past, length_all_zip (λ x y. y.bytes ≡ x.bytes) xs ys zip)) ∙ sym (get_or_past xs k no_chunk past))
+  | inr past ↦ ap (λ x. x.bytes) (get_or_past ys k no_chunk (omega (arith, past, length_all_zip (λ x y. y.bytes ≡ x.bytes) xs ys zip)) ∙
+      sym (get_or_past xs k no_chunk past))
 ]
 
-pub copied_table : (s t : TableState) → t.first.bytes ≡ s.first.bytes → ((k : ℕ) → (placed t.shelves k).bytes ≡ (placed s.shelves k).bytes) → (k : ℕ) → (chunk_at t k).bytes ≡ (chunk_at s k).bytes
+pub copied_table : (s t : TableState) → t.first.bytes ≡ s.first.bytes → ((k : ℕ) → (placed t.shelves k).bytes ≡ (placed s.shelves k).bytes) → (k : ℕ) →
+    (chunk_at t k).bytes ≡ (chunk_at s k).bytes
 copied_table s t first rest k = elim (cases_eq k 0) [
   | inl same ↦ rw same first
   | inr apart ↦

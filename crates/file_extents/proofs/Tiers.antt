@@ -19,7 +19,8 @@ module _ {N : Type 0} (none : N) (at : N → ℕ → ChunkState) (node place : �
   pub node_there : (xs : List N) (n s end : ℕ) → ((k : ℕ) → (at none k).high ≡ 0) → HasPlaces (tier xs n) s end → s < end → node n < length xs
   node_there xs n s end empty has some = elim (cases_lt (node n) (length xs)) [
     | inl there ↦ there
-    | inr past ↦ let gone : (tier xs n).high ≡ 0 = ap (λ x. (at x (place n)).high) (get_or_past xs (node n) none past) ∙ empty (place n) in omega (arith, gone, has.high, some)
+    | inr past ↦ let gone : (tier xs n).high ≡ 0 = ap (λ x. (at x (place n)).high) (get_or_past xs (node n) none past) ∙ empty (place n) in
+        omega (arith, gone, has.high, some)
   ]
 
   -- a node that was changed, and the others
@@ -32,7 +33,8 @@ module _ {N : Type 0} (none : N) (at : N → ℕ → ChunkState) (node place : �
   was_there : (xs : List N) (n k : ℕ) → node k ≡ node n → tier xs k ≡ at (get_or xs (node n) none) (place k)
   was_there xs n k same = ap (λ i. at (get_or xs i none) (place k)) same
 
-  room_kept : (xs : List N) (n : ℕ) (x : N) → node n < length xs → ((k : ℕ) → KeepsPlaces (at (get_or xs (node n) none) k) (at x k)) → (k : ℕ) → KeepsPlaces (tier xs k) (tier (slice_set xs (node n) x) k)
+  room_kept : (xs : List N) (n : ℕ) (x : N) → node n < length xs → ((k : ℕ) → KeepsPlaces (at (get_or xs (node n) none) k) (at x k)) → (k : ℕ) →
+      KeepsPlaces (tier xs k) (tier (slice_set xs (node n) x) k)
   room_kept xs n x there keeps k = elim (cases_eq (node k) (node n)) [
     | inl same ↦ rw (was_there xs n k same, set_there xs n k x there same) (keeps (place k))
     | inr other ↦ kept_if_same (tier xs k) (tier (slice_set xs (node n) x) k) (set_apart xs n k x other)
@@ -47,7 +49,8 @@ module _ {N : Type 0} (none : N) (at : N → ℕ → ChunkState) (node place : �
 
       elsewhere : (k : ℕ) → (k ≢ n) → (tier (slice_set xs (node n) x) k).bytes ≡ (tier xs k).bytes
       elsewhere k apart = elim (cases_eq (node k) (node n)) [
-        | inl same ↦ ap (λ c. c.bytes) (set_there xs n k x there same) ∙ (edits.elsewhere (place k) (λ eq. apart (one k same eq)) ∙ ap (λ c. c.bytes) (sym (was_there xs n k same)))
+        | inl same ↦ ap (λ c. c.bytes) (set_there xs n k x there same) ∙
+            (edits.elsewhere (place k) (λ eq. apart (one k same eq)) ∙ ap (λ c. c.bytes) (sym (was_there xs n k same)))
         | inr other ↦ ap (λ c. c.bytes) (set_apart xs n k x other)
       ]
 
@@ -55,7 +58,8 @@ module _ {N : Type 0} (none : N) (at : N → ℕ → ChunkState) (node place : �
   pub copied_tier : (xs ys : List N) → AllZip (λ x y. (k : ℕ) → (at y k).bytes ≡ (at x k).bytes) xs ys → (k : ℕ) → (tier ys k).bytes ≡ (tier xs k).bytes
   copied_tier xs ys zip k = elim (cases_lt (node k) (length xs)) [
     | inl below ↦ AllZip-get_or (λ x y. (j : ℕ) → (at y j).bytes ≡ (at x j).bytes) xs ys (node k) none none zip below (place k)
-    | inr past ↦ ap (λ x. (at x (place k)).bytes) (get_or_past ys (node k) none (omega (arith, past, length_all_zip (λ x y. (j : ℕ) → (at y j).bytes ≡ (at x j).bytes) xs ys zip)) ∙ sym (get_or_past xs (node k) none past))
+    | inr past ↦ ap (λ x. (at x (place k)).bytes) (get_or_past ys (node k) none
+        (omega (arith, past, length_all_zip (λ x y. (j : ℕ) → (at y j).bytes ≡ (at x j).bytes) xs ys zip)) ∙ sym (get_or_past xs (node k) none past))
   ]
 
 -- rows of a shelf
@@ -77,11 +81,14 @@ pub edited_rows : (rows : List (List ChunkState)) (n : ℕ) (row : List ChunkSta
 edited_rows rows n row s new there edits = edited_tier [] chunk_in (λ k. k / 256) (λ k. k % 256) rows n row s new (one_column n) there edits
 
 pub edited_shelves : (shelves : List (List (List ChunkState))) (n : ℕ) (shelf : List (List ChunkState)) (s : ℕ) (new : List ℕ) → n / 65536 < length shelves →
-    Edits s new (n % 65536) (shelved (shelf_in shelves (n / 65536))) (shelved shelf) → Edits s new n (placed shelves) (placed (slice_set shelves (n / 65536) shelf))
+    Edits s new (n % 65536) (shelved (shelf_in shelves (n / 65536))) (shelved shelf) →
+    Edits s new n (placed shelves) (placed (slice_set shelves (n / 65536) shelf))
 edited_shelves shelves n shelf s new there edits = edited_tier [] shelved (λ k. k / 65536) (λ k. k % 65536) shelves n shelf s new (one_place n) there edits
 
-pub copied_rows : (xs ys : List (List ChunkState)) → AllZip (λ x y. (k : ℕ) → (chunk_in y k).bytes ≡ (chunk_in x k).bytes) xs ys → (k : ℕ) → (shelved ys k).bytes ≡ (shelved xs k).bytes
+pub copied_rows : (xs ys : List (List ChunkState)) → AllZip (λ x y. (k : ℕ) → (chunk_in y k).bytes ≡ (chunk_in x k).bytes) xs ys → (k : ℕ) →
+    (shelved ys k).bytes ≡ (shelved xs k).bytes
 copied_rows xs ys zip k = copied_tier [] chunk_in (λ k. k / 256) (λ k. k % 256) xs ys zip k
 
-pub copied_shelves : (xs ys : List (List (List ChunkState))) → AllZip (λ x y. (k : ℕ) → (shelved y k).bytes ≡ (shelved x k).bytes) xs ys → (k : ℕ) → (placed ys k).bytes ≡ (placed xs k).bytes
+pub copied_shelves : (xs ys : List (List (List ChunkState))) → AllZip (λ x y. (k : ℕ) → (shelved y k).bytes ≡ (shelved x k).bytes) xs ys → (k : ℕ) →
+    (placed ys k).bytes ≡ (placed xs k).bytes
 copied_shelves xs ys zip k = copied_tier [] shelved (λ k. k / 65536) (λ k. k % 65536) xs ys zip k

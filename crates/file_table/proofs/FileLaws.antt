@@ -25,10 +25,12 @@ Files = List (Option (Used StoredFile))
 pub body_as : (stored : StoredFile) (old new : ExtentsState) (edit : List ℕ → List ℕ) → stored.body ≡ body.Regular old → new.bytes ≡ edit old.bytes →
     record stored { body = body.Regular new } ≡ edited_bytes edit new.table stored
 body_as stored old new edit is bytes =
-    ap (λ b. record stored { body = b }) (ap (λ bytes. body.Regular (record { bytes = bytes; table = new.table })) bytes ∙ sym (ap (edited_body edit new.table) is))
+    ap (λ b. record stored { body = b }) (ap (λ bytes. body.Regular (record { bytes = bytes; table = new.table })) bytes ∙
+    sym (ap (edited_body edit new.table) is))
 
 -- a FIFO has no bytes to edit
-pub fifo_as : (stored : StoredFile) (fifo : Fifo) (edit : List ℕ → List ℕ) (room : TableState) → stored.body ≡ body.Fifo fifo → record stored { body = stored.body } ≡ edited_bytes edit room stored
+pub fifo_as : (stored : StoredFile) (fifo : Fifo) (edit : List ℕ → List ℕ) (room : TableState) → stored.body ≡ body.Fifo fifo →
+    record stored { body = stored.body } ≡ edited_bytes edit room stored
 fifo_as stored fifo edit room is = ap (λ b. record stored { body = b }) (is ∙ sym (ap (edited_body edit room) is))
 
 -- what is read where there is no byte
@@ -76,7 +78,8 @@ files_same room (Some used ∷ xs) zero = ap (λ file. Some file ∷ file_slots 
 files_same room (x ∷ xs) (suc n) = ap (λ files. file_slot (value_at x) ∷ files) (files_same room xs n)
 
 -- a regular file has the room that was made
-pub room_made : (room : TableState) (xs : Files) (n : ℕ) → is_regular_file (slot (file_slots (values_in xs)) n) ≡ true → room_at (room_slots (values_in (edited n (Roomier room) xs))) n ≡ room
+pub room_made : (room : TableState) (xs : Files) (n : ℕ) → is_regular_file (slot (file_slots (values_in xs)) n) ≡ true →
+    room_at (room_slots (values_in (edited n (Roomier room) xs))) n ≡ room
 room_made room [] n regular = cc
 room_made room (None ∷ xs) zero regular = cc
 room_made room (Some used ∷ xs) zero regular = by_body used.value.body regular

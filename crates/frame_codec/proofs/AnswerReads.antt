@@ -118,7 +118,8 @@ abbrev told_bytes : FileType × (ℕ × ℕ) → List ℕ
 told_bytes s = (kind_byte s.0 ∷ []) ++ size_bytes s.1
 
 stats : Reads told_bytes ToldFits (two_at (byte_at kind_of) (two_at (number_at w64) (number_at w32)))
-stats = two (λ (kind : FileType). kind_byte kind ∷ []) (λ (kind : FileType). Always kind) (byte_at kind_of) size_bytes SizeFits (two_at (number_at w64) (number_at w32)) kind_reads sizes
+stats = two (λ (kind : FileType). kind_byte kind ∷ []) (λ (kind : FileType). Always kind) (byte_at kind_of) size_bytes SizeFits
+    (two_at (number_at w64) (number_at w32)) kind_reads sizes
 
 -- ---- outcomes
 
@@ -138,9 +139,11 @@ outcome_rows_take = (
       (
         led outcome_bytes OutcomeFits pair32_bytes Pair32 (two_at (number_at w32) (number_at w32)) 4 pair_of pairs (λ v. refl) (λ v h. h),
         (
-          led outcome_bytes OutcomeFits told_bytes ToldFits (two_at (byte_at kind_of) (two_at (number_at w64) (number_at w32))) 5 stat_of stats (λ v. refl) (λ v h. h.1),
+          led outcome_bytes OutcomeFits told_bytes ToldFits (two_at (byte_at kind_of) (two_at (number_at w64) (number_at w32))) 5 stat_of stats (λ v. refl)
+              (λ v h. h.1),
           (
-            led outcome_bytes OutcomeFits (λ (errno : Errno). error_number errno ∷ []) (λ (errno : Errno). Always errno) (byte_at error_of) 6 refused_by error_reads (λ v. refl) (λ v h. tt),
+            led outcome_bytes OutcomeFits (λ (errno : Errno). error_number errno ∷ []) (λ (errno : Errno). Always errno)
+                (byte_at error_of) 6 refused_by error_reads (λ v. refl) (λ v h. tt),
             (
               led outcome_bytes OutcomeFits (number_bytes w32) Below32 (number_at w32) 7 outcomes.Parked reads32 (λ v. refl) (λ v h. h),
               (
@@ -203,7 +206,8 @@ refusal_again refusals.NoMemory rest h = refl
 refusal_again refusals.RunFull rest h = refl
 refusal_again refusals.Waiting rest h = refl
 refusal_again refusals.NotHere rest h = refl
-refusal_again (refusals.Foreign seen len) rest h = ap (λ (o : Option ((ℕ × ℕ) × List ℕ)). o >>= λ x. Some (foreign_of x.0, x.1)) (long_pairs.again (seen, len) rest h)
+refusal_again (refusals.Foreign seen len) rest h = ap (λ (o : Option ((ℕ × ℕ) × List ℕ)). o >>= λ x. Some (foreign_of x.0, x.1))
+    (long_pairs.again (seen, len) rest h)
 
 refusal_takes : (bytes : List ℕ) (x : Refusal × List ℕ) → AreBytes bytes → refusal_at bytes ≡ Some x → Taken refusal_bytes RefusalFits bytes x
 unfolding refusal_at
@@ -235,8 +239,10 @@ answer_rows_take = (
 
 answer_again : (answer : Answer) (rest : List ℕ) → AnswerFits answer → answer_at (answer_bytes answer ++ rest) ≡ Some (answer, rest)
 unfolding answer_bytes
-answer_again (answers.Recorded place outcome) rest h = ap (λ (o : Option ((ℕ × Outcome) × List ℕ)). o >>= λ x. Some (recorded_of x.0, x.1)) (records.again (place, outcome) rest h)
-answer_again (answers.Refused refusal) rest h = ap (λ (o : Option (Refusal × List ℕ)). o >>= λ x. Some (answers.Refused x.0, x.1)) (refusal_reads.again refusal rest h)
+answer_again (answers.Recorded place outcome) rest h = ap (λ (o : Option ((ℕ × Outcome) × List ℕ)). o >>= λ x. Some (recorded_of x.0, x.1))
+    (records.again (place, outcome) rest h)
+answer_again (answers.Refused refusal) rest h = ap (λ (o : Option (Refusal × List ℕ)). o >>= λ x. Some (answers.Refused x.0, x.1))
+    (refusal_reads.again refusal rest h)
 
 answer_takes : (bytes : List ℕ) (x : Answer × List ℕ) → AreBytes bytes → answer_at bytes ≡ Some x → Taken answer_bytes AnswerFits bytes x
 answer_takes bytes x h e = tagged_takes answer_bytes AnswerFits answer_rows bytes x answer_rows_take h e

@@ -7,7 +7,8 @@ use Rattle.frame_codec.specs.Frames.{told_length, IsShort}
 use Rattle.frame_codec.specs.Proved.Filling.{FillsHead, Fills, Completes}
 
 -- the head is told, so what tells it is not yet a frame
-pub still_short : (most : ℕ) (old mid piece : List ℕ) (first : ℕ) → IsShort most old → FillsHead old mid piece first → 4 ≤ length mid → length mid ≤ 4 + told_length mid
+pub still_short : (most : ℕ) (old mid piece : List ℕ) (first : ℕ) → IsShort most old → FillsHead old mid piece first → 4 ≤ length mid →
+    length mid ≤ 4 + told_length mid
 still_short most old mid piece first short head le =
     elim head.few [
       | inl few ↦ omega arith
@@ -35,6 +36,13 @@ completes most old mid new piece first second head there few more =
       };
       ends = elim more.ends [
         | inl full ↦ inr (inr (omega (arith, told, few), omega (arith, told, full)))
-        | inr part ↦ inl (omega (arith, part.0, head.takes.within, length-drop first piece), inr (omega (arith, length-append mid (take second (drop first piece)), ap length more.takes.is, there), omega (arith, told, few), omega (arith, told, part.1)))
+        | inr part ↦ inl (
+          omega (arith, part.0, head.takes.within, length-drop first piece),
+          inr (
+            omega (arith, length-append mid (take second (drop first piece)), ap length more.takes.is, there),
+            omega (arith, told, few),
+            omega (arith, told, part.1),
+          ),
+        )
       ];
     }

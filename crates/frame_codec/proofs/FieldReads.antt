@@ -39,10 +39,21 @@ wide32 = record {
 wide64 : IsWide w64 (2 ^ 64)
 wide64 = record {
   back = λ bytes len h. be_bytes_8 bytes _ len (by_index bytes h) refl;
-  below = λ bytes h. omega (arith, by_index bytes h 0, by_index bytes h 1, by_index bytes h 2, by_index bytes h 3, by_index bytes h 4, by_index bytes h 5, by_index bytes h 6, by_index bytes h 7);
+  below = λ bytes h. omega (
+    arith,
+    by_index bytes h 0,
+    by_index bytes h 1,
+    by_index bytes h 2,
+    by_index bytes h 3,
+    by_index bytes h 4,
+    by_index bytes h 5,
+    by_index bytes h 6,
+    by_index bytes h 7,
+  );
 }
 
-number_takes : (w : Width) (limit : ℕ) → IsWide w limit → (bytes : List ℕ) (x : ℕ × List ℕ) → AreBytes bytes → number_at w bytes ≡ Some x → Taken (number_bytes w) (λ (n : ℕ). n < limit) bytes x
+number_takes : (w : Width) (limit : ℕ) → IsWide w limit → (bytes : List ℕ) (x : ℕ × List ℕ) → AreBytes bytes → number_at w bytes ≡ Some x →
+    Taken (number_bytes w) (λ (n : ℕ). n < limit) bytes x
 unfolding number_bytes number_at
 number_takes w limit wide bytes x h e =
     let s = bind_some (front_at (byte_len w) bytes) (λ (y : List ℕ × List ℕ). Some (from_be_bytes w y.0, y.1)) x e in
@@ -78,7 +89,8 @@ pub counted : (most : ℕ) → most < 2 ^ 32 → Reads counted_bytes (λ (bytes 
 counted most small = record {
   again = λ bytes rest h.
       ap (counted_at most) (append_assoc (number_bytes w32 (length bytes)) bytes rest)
-      ∙ ap (λ (o : Option (ℕ × List ℕ)). o >>= λ count. cond (ltb most count.0) None (front_at count.0 count.1)) (again32 (length bytes) (bytes ++ rest) (omega (arith, h.1, small)))
+      ∙ ap (λ (o : Option (ℕ × List ℕ)). o >>= λ count. cond (ltb most count.0) None (front_at count.0 count.1))
+      (again32 (length bytes) (bytes ++ rest) (omega (arith, h.1, small)))
       ∙ cond-false (ltb most (length bytes)) None (front_at (length bytes) (bytes ++ rest)) (le-ltb _ _ h.1)
       ∙ front_again bytes rest (length bytes) refl;
   takes = λ bytes x h e.

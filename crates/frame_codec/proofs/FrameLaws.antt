@@ -23,7 +23,8 @@ unfolding number_bytes
 head_again bytes h le = be_bytes_4 (take 4 bytes) _ (omega (arith, length-take 4 bytes)) (front_fits 4 bytes h) refl
 
 -- as many bytes as the length tells are a frame
-pub whole_frame : (bytes : List ℕ) → ((i : ℕ) → get_or bytes i 0 < 256) → 4 + told_length bytes ≤ length bytes → take (4 + told_length bytes) bytes ≡ frame (told_payload bytes)
+pub whole_frame : (bytes : List ℕ) → ((i : ℕ) → get_or bytes i 0 < 256) → 4 + told_length bytes ≤ length bytes → take (4 + told_length bytes) bytes ≡ frame
+    (told_payload bytes)
 whole_frame bytes h le =
     let long : length (told_payload bytes) ≡ told_length bytes = omega (arith, length-take (told_length bytes) (drop 4 bytes), length-drop 4 bytes) in
     take-add 4 (told_length bytes) bytes
@@ -32,7 +33,8 @@ whole_frame bytes h le =
 
 -- bytes with a value in their first frame begin with it
 pub whole_begins : {A : Type 0} (Spells : A → List ℕ → Type 0) (most : ℕ) (value : A) (bytes : List ℕ) (told : ℕ) → ((i : ℕ) → get_or bytes i 0 < 256)
-    → told ≡ told_length bytes → told ≤ most → 4 + told ≤ length bytes → Spells value (take told (drop 4 bytes)) → Begun Spells most bytes (begins.Whole value (4 + told))
+    → told ≡ told_length bytes → told ≤ most → 4 + told ≤ length bytes → Spells value (take told (drop 4 bytes)) →
+    Begun Spells most bytes (begins.Whole value (4 + told))
 whole_begins Spells most value bytes told h is few there spelled =
     let within : 4 + told_length bytes ≤ length bytes = subst (λ (n : ℕ). 4 + n ≤ length bytes) is there in
     subst (λ (n : ℕ). Begun Spells most bytes (begins.Whole value (4 + n))) (sym is)

@@ -20,7 +20,8 @@ use Rattle.frame_codec.proofs.ShortRecords.{fields_short}
 
 -- ---- any value
 
-framed : {A : Type 0} (text : A → List ℕ) (Fits : A → Type 0) (most : ℕ) (value : A) → Fits value → length (text value) ≤ most → IsFrame (Spelled text Fits) most value (frame (text value))
+framed : {A : Type 0} (text : A → List ℕ) (Fits : A → Type 0) (most : ℕ) (value : A) → Fits value → length (text value) ≤ most →
+    IsFrame (Spelled text Fits) most value (frame (text value))
 framed text Fits most value h few = record { payload = text value; few = few; spelled = (h, refl); is = refl }
 
 unfit : {A : Type 0} (text : A → List ℕ) (Fits : A → Type 0) (most : ℕ) (value : A) → (Fits value → ⊥) → HasNoFrame (Spelled text Fits) most value
@@ -56,7 +57,8 @@ request_unflagged call never = unfit request_bytes RequestFits REQUEST_LENGTH_MA
 
 -- ---- records
 
-pub record_framed : (r : Record) → (FlagsFit r.act → IsInRange r) → FlagsFit r.act → may_act r.act r.actor ≡ true → length (frame (record_bytes r)) ≤ 4 + RECORD_LENGTH_MAX → IsFrame SpellsRecord RECORD_LENGTH_MAX r (frame (record_bytes r))
+pub record_framed : (r : Record) → (FlagsFit r.act → IsInRange r) → FlagsFit r.act → may_act r.act r.actor ≡ true →
+    length (frame (record_bytes r)) ≤ 4 + RECORD_LENGTH_MAX → IsFrame SpellsRecord RECORD_LENGTH_MAX r (frame (record_bytes r))
 record_framed r all flags its few =
     let h = all flags in
     framed record_bytes RecordFits RECORD_LENGTH_MAX r (h.0, h.1, may_only r.act r.actor its, h.2) (omega (arith, few, frame_length (record_bytes r)))

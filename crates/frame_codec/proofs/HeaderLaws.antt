@@ -33,7 +33,8 @@ same_fields fields more long =
     let last : drop 8 (fields ++ more) ≡ drop 8 fields ++ more = drop-append-le 8 fields more (omega arith) in
     let second : take 4 (drop 4 fields ++ more) ≡ take 4 (drop 4 fields) = take-append-le 4 (drop 4 fields) more (omega (arith, length-drop 4 fields)) in
     let third : take 8 (drop 8 fields ++ more) ≡ take 8 (drop 8 fields) = take-append-le 8 (drop 8 fields) more (omega (arith, length-drop 8 fields)) in
-    fields_by (take 4 (fields ++ more)) (take 4 fields) (take 4 (drop 4 (fields ++ more))) (take 4 (drop 4 fields)) (take 8 (drop 8 (fields ++ more))) (take 8 (drop 8 fields))
+    fields_by (take 4 (fields ++ more)) (take 4 fields) (take 4 (drop 4 (fields ++ more))) (take 4 (drop 4 fields)) (take 8 (drop 8 (fields ++ more)))
+    (take 8 (drop 8 fields))
     first (ap (take 4) left ∙ second) (ap (take 8) last ∙ third)
   where
     fields_by : (a b c d e f : List ℕ) → a ≡ b → c ≡ d → e ≡ f → told_from a c e ≡ told_from b d f
@@ -44,7 +45,8 @@ abbrev GoOn : ℕ → (List ℕ → Header) → Type 0
 GoOn met next = (bytes more : List ℕ) → GoesOn (met + length bytes) (next bytes) (next (bytes ++ more))
 
 -- where the fields are whole, they stay what they are
-whole_fields : (t : Bool) (told : ToldLimits) (met : ℕ) → 24 ≤ met → GoesOn met (cond t (Headed told HEADER_2_LENGTH) Unheaded) (cond t (Headed told HEADER_2_LENGTH) Unheaded)
+whole_fields : (t : Bool) (told : ToldLimits) (met : ℕ) → 24 ≤ met → GoesOn met (cond t (Headed told HEADER_2_LENGTH) Unheaded)
+    (cond t (Headed told HEADER_2_LENGTH) Unheaded)
 whole_fields true told met long = (refl, long)
 whole_fields false told met long = refl
 
@@ -55,7 +57,8 @@ ends_late false true told met few = few
 ends_late false false told met few = tt
 
 -- fields that are whole are a header, if it may tell what they do
-fields_are : (fields : List ℕ) (told : ToldLimits) → nat_lt (length fields) 16 ≡ false → told_in fields ≡ told → limits_header fields ≡ cond (is_told told) (Headed told HEADER_2_LENGTH) Unheaded
+fields_are : (fields : List ℕ) (told : ToldLimits) → nat_lt (length fields) 16 ≡ false → told_in fields ≡ told → limits_header fields ≡ cond (is_told told)
+    (Headed told HEADER_2_LENGTH) Unheaded
 fields_are fields told whole same =
     ap (λ (t : Bool). cond t Short (cond (is_told (told_in fields)) (Headed (told_in fields) HEADER_2_LENGTH) Unheaded)) whole
     ∙ ap (λ (t : ToldLimits). cond (is_told t) (Headed t HEADER_2_LENGTH) Unheaded) same
@@ -64,14 +67,19 @@ limits_go_on : GoOn 8 limits_header
 limits_go_on fields more = elim (cases_lt (length fields) 16) [
   | inl few ↦
       let short : nat_lt (length fields) 16 ≡ true = lt-ltb _ _ few in
-      rw short (omega arith, ends_late (nat_lt (length (fields ++ more)) 16) (is_told (told_in (fields ++ more))) (told_in (fields ++ more)) (8 + length fields) (omega arith))
+      rw short (
+        omega arith,
+        ends_late (nat_lt (length (fields ++ more)) 16) (is_told (told_in (fields ++ more))) (told_in (fields ++ more)) (8 + length fields)
+            (omega arith),
+      )
   | inr long ↦
       let met = 8 + length fields in
       let told = told_in fields in
       let now = fields_are fields told (le-ltb _ _ long) refl in
       let later = fields_are (fields ++ more) told (le-ltb _ _ (omega (arith, length-append fields more))) (same_fields fields more long) in
       subst (λ (h : Header). GoesOn met h (limits_header (fields ++ more))) (sym now)
-      (subst (λ (h : Header). GoesOn met (cond (is_told told) (Headed told HEADER_2_LENGTH) Unheaded) h) (sym later) (whole_fields (is_told told) told met (omega arith)))
+      (subst (λ (h : Header). GoesOn met (cond (is_told told) (Headed told HEADER_2_LENGTH) Unheaded) h) (sym later)
+      (whole_fields (is_told told) told met (omega arith)))
 ]
 
 -- a version's header goes on as its fields do
@@ -98,9 +106,11 @@ version_goes_on [] more = (omega arith, version_late more)
 version_goes_on (v ∷ fields) more =
     let longer : 8 + length fields ≡ 7 + length (v ∷ fields) = omega arith in
     subst (λ (met : ℕ). GoesOn met (version_header (v ∷ fields)) (version_header (v ∷ (fields ++ more)))) longer
-    (version_by (eqb v VERSION_1) (eqb v VERSION_2) (8 + length fields) (limits_header fields) (limits_header (fields ++ more)) (omega arith) (limits_go_on fields more))
+    (version_by (eqb v VERSION_1) (eqb v VERSION_2) (8 + length fields) (limits_header fields) (limits_header (fields ++ more)) (omega arith)
+    (limits_go_on fields more))
 
-text_late : (text : List ℕ) (next : List ℕ → Header) → ((bytes : List ℕ) → EndsAfter 7 (next bytes)) → (bytes : List ℕ) → EndsAfter 7 (header_after text next bytes)
+text_late : (text : List ℕ) (next : List ℕ → Header) → ((bytes : List ℕ) → EndsAfter 7 (next bytes)) → (bytes : List ℕ) →
+    EndsAfter 7 (header_after text next bytes)
 text_late [] next late bytes = late bytes
 text_late (c ∷ text) next late [] = tt
 text_late (c ∷ text) next late (b ∷ bytes) =
@@ -112,7 +122,8 @@ ends_sooner met Short few late = tt
 ends_sooner met Unheaded few late = tt
 
 -- what bytes are that are to begin with a text goes on as what comes after it does
-text_goes_on : (met : ℕ) (text : List ℕ) (next : List ℕ → Header) → met + length text ≤ 7 → ((bytes : List ℕ) → EndsAfter 7 (next bytes)) → GoOn (met + length text) next
+text_goes_on : (met : ℕ) (text : List ℕ) (next : List ℕ → Header) → met + length text ≤ 7 → ((bytes : List ℕ) → EndsAfter 7 (next bytes)) →
+    GoOn (met + length text) next
     → GoOn met (header_after text next)
 text_goes_on met [] next few late on bytes more = let same : met + 0 ≡ met = omega arith in subst (λ (m : ℕ). GoOn m next) same on bytes more
 text_goes_on met (c ∷ text) next few late on [] more =
@@ -121,7 +132,8 @@ text_goes_on met (c ∷ text) next few late on (b ∷ bytes) more =
     let longer : (met + 1) + length text ≡ met + length (c ∷ text) = omega arith in
     let further : (met + 1) + length bytes ≡ met + length (b ∷ bytes) = omega arith in
     let rest = text_goes_on (met + 1) text next (omega arith) late (subst (λ (m : ℕ). GoOn m next) (sym longer) on) bytes more in
-    elim (eqb b c) as (λ (t : Bool). GoesOn (met + length (b ∷ bytes)) (cond t (header_after text next bytes) Unheaded) (cond t (header_after text next (bytes ++ more)) Unheaded)) [
+    elim (eqb b c) as (λ (t : Bool). GoesOn (met + length (b ∷ bytes)) (cond t (header_after text next bytes) Unheaded)
+    (cond t (header_after text next (bytes ++ more)) Unheaded)) [
       | true ↦ subst (λ (m : ℕ). GoesOn m (header_after text next bytes) (header_after text next (bytes ++ more))) further rest
       | false ↦ refl
     ]
@@ -129,7 +141,8 @@ text_goes_on met (c ∷ text) next few late on (b ∷ bytes) more =
 pub headers_go_on : HeaderGoesOn
 headers_go_on bytes more =
     let none : 0 + length bytes ≡ length bytes = omega arith in
-    subst (λ (m : ℕ). GoesOn m (header bytes) (header (bytes ++ more))) none (text_goes_on 0 (codes "FDTRACE") version_header (omega arith) version_late version_goes_on bytes more)
+    subst (λ (m : ℕ). GoesOn m (header bytes) (header (bytes ++ more))) none
+    (text_goes_on 0 (codes "FDTRACE") version_header (omega arith) version_late version_goes_on bytes more)
 
 -- ---- headers, read again
 
@@ -183,9 +196,20 @@ told_fits told h =
 told_again : (told : ToldLimits) (body : List ℕ) → Fitting told → told_in (limits_bytes told ++ body) ≡ told
 unfolding number_bytes
 told_again told body f =
-    ap (λ (n : ℕ). record { records = most_of n; bounds = record { file_size = from_be_bytes w64 (to_be_bytes w64 told.bounds.file_size); pipe_capacity = from_be_bytes w32 (to_be_bytes w32 told.bounds.pipe_capacity) } })
+    ap (λ (n : ℕ). record {
+      records = most_of n;
+      bounds = record {
+        file_size = from_be_bytes w64 (to_be_bytes w64 told.bounds.file_size);
+        pipe_capacity =
+            from_be_bytes w32 (to_be_bytes w32 told.bounds.pipe_capacity);
+      };
+    })
     (from_be_bytes-to_be_bytes_4 (number_of told.records) (most_fits told.records f.records))
-    ∙ ap (λ (n : ℕ). record { records = most_of (number_of told.records); bounds = record { file_size = from_be_bytes w64 (to_be_bytes w64 told.bounds.file_size); pipe_capacity = n } })
+    ∙ ap (λ (n : ℕ). record {
+      records = most_of (number_of told.records);
+      bounds =
+          record { file_size = from_be_bytes w64 (to_be_bytes w64 told.bounds.file_size); pipe_capacity = n };
+    })
     (from_be_bytes-to_be_bytes_4 told.bounds.pipe_capacity f.capacity)
     ∙ ap (λ (n : ℕ). record { records = most_of (number_of told.records); bounds = record { file_size = n; pipe_capacity = told.bounds.pipe_capacity } })
     (from_be_bytes-to_be_bytes_8 told.bounds.file_size (omega (arith, f.size)))
@@ -198,7 +222,8 @@ limits_long told = refl
 second_again : (told : ToldLimits) (body : List ℕ) → is_told told ≡ true → header (header_2 told ++ body) ≡ Headed told HEADER_2_LENGTH
 second_again told body h =
     let whole : nat_lt (length (limits_bytes told ++ body)) 16 ≡ false = le-ltb _ _ (omega (arith, limits_long told, length-append (limits_bytes told) body)) in
-    fields_are (limits_bytes told ++ body) told whole (told_again told body (told_fits told h)) ∙ ap (λ (t : Bool). cond t (Headed told HEADER_2_LENGTH) Unheaded) h
+    fields_are (limits_bytes told ++ body) told whole (told_again told body (told_fits told h)) ∙
+    ap (λ (t : Bool). cond t (Headed told HEADER_2_LENGTH) Unheaded) h
 
 pub headers_are_read : HeadersAreRead
 headers_are_read = record {
@@ -215,7 +240,8 @@ fields_tell false told is = tt
 
 limits_tell : (fields : List ℕ) → TellsLimits (limits_header fields)
 limits_tell fields =
-    elim (nat_lt (length fields) 16) as (λ (short : Bool). TellsLimits (cond short Short (cond (is_told (told_in fields)) (Headed (told_in fields) HEADER_2_LENGTH) Unheaded)))
+    elim (nat_lt (length fields) 16) as (λ (short : Bool). TellsLimits
+    (cond short Short (cond (is_told (told_in fields)) (Headed (told_in fields) HEADER_2_LENGTH) Unheaded)))
     [ true ↦ tt | false ↦ fields_tell (is_told (told_in fields)) (told_in fields) refl ]
 
 version_tells : (bytes : List ℕ) → TellsLimits (version_header bytes)
@@ -227,7 +253,8 @@ version_tells (v ∷ fields) = by (eqb v VERSION_1) (eqb v VERSION_2) (limits_he
     by false true h tells = tells
     by false false h tells = tt
 
-text_tells : (text : List ℕ) (next : List ℕ → Header) → ((bytes : List ℕ) → TellsLimits (next bytes)) → (bytes : List ℕ) → TellsLimits (header_after text next bytes)
+text_tells : (text : List ℕ) (next : List ℕ → Header) → ((bytes : List ℕ) → TellsLimits (next bytes)) → (bytes : List ℕ) →
+    TellsLimits (header_after text next bytes)
 text_tells [] next tells bytes = tells bytes
 text_tells (c ∷ text) next tells [] = tt
 text_tells (c ∷ text) next tells (b ∷ bytes) =
@@ -245,17 +272,20 @@ met_with old piece front taken count is met =
     ∙ ap (λ (l : List ℕ). old ++ (l ++ drop count piece)) is ∙ ap (λ (l : List ℕ). old ++ l) (take-append-drop count piece)
 
 -- there is no header
-pub none_met : HeaderGoesOn → (old piece front taken : List ℕ) (count : ℕ) → front ≡ take count piece → taken ≡ old ++ front → header taken ≡ Unheaded → header (old ++ piece) ≡ Unheaded
+pub none_met : HeaderGoesOn → (old piece front taken : List ℕ) (count : ℕ) → front ≡ take count piece → taken ≡ old ++ front → header taken ≡ Unheaded →
+    header (old ++ piece) ≡ Unheaded
 none_met on old piece front taken count is met none =
     ap header (sym (met_with old piece front taken count is met))
     ∙ subst (λ (h : Header). GoesOn (length taken) h (header (taken ++ drop count piece))) none (on taken (drop count piece))
 
 -- the header ends in the piece, and the rest of it comes after that many bytes
-pub whole_met : HeaderGoesOn → (old piece front taken : List ℕ) (count : ℕ) (told : ToldLimits) (n : ℕ) → header old ≡ Short → front ≡ take count piece → taken ≡ old ++ front
+pub whole_met : HeaderGoesOn → (old piece front taken : List ℕ) (count : ℕ) (told : ToldLimits) (n : ℕ) → header old ≡ Short → front ≡ take count piece →
+    taken ≡ old ++ front
     → header taken ≡ Headed told n → (header (old ++ piece) ≡ Headed told n) × (drop (n - length old) piece ≡ drop n (old ++ piece))
 whole_met on old piece front taken count told n short is met whole =
     let later = subst (λ (h : Header). GoesOn (length taken) h (header (taken ++ drop count piece))) whole (on taken (drop count piece)) in
     let headed = ap header (sym (met_with old piece front taken count is met)) ∙ later.0 in
-    let after = subst (λ (h : Header). GoesOn (length old) Short h) headed (subst (λ (h : Header). GoesOn (length old) h (header (old ++ piece))) short (on old piece)) in
+    let after = subst (λ (h : Header). GoesOn (length old) Short h) headed (subst (λ (h : Header). GoesOn (length old) h (header (old ++ piece))) short
+    (on old piece)) in
     let seam : length old + (n - length old) ≡ n = omega (arith, after.1) in
     (headed, sym (drop-append-add old piece (n - length old)) ∙ ap (λ (k : ℕ). drop k (old ++ piece)) seam)

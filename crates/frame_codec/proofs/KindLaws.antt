@@ -16,10 +16,12 @@ none_some o x e f = absurd (let t = sym e ∙ f in cc)
 -- a payload of which nothing is read spells nothing
 pub spells_none : {A : Type 0} (text : A → List ℕ) (Fits : A → Type 0) (read : Reading A) → Reads text Fits read
     → (payload : List ℕ) → payload_at read payload ≡ None → (value : A) → Spelled text Fits value payload → ⊥
-spells_none text Fits read r payload e = λ value spelled. none_some (payload_at read payload) value e (ap (payload_at read) spelled.1 ∙ payload_again text Fits read r value spelled.0)
+spells_none text Fits read r payload e = λ value spelled. none_some (payload_at read payload) value e (ap (payload_at read) spelled.1 ∙
+    payload_again text Fits read r value spelled.0)
 
 pub gives_value : {A : Type 0} (text : A → List ℕ) (Fits : A → Type 0) (read : Reading A) → Reads text Fits read
-    → (result : Result A PayloadFault) (payload : List ℕ) → AreBytes payload → Gives (λ (x : A). x) result (payload_at read payload) → GivesValue (Spelled text Fits) result payload
+    → (result : Result A PayloadFault) (payload : List ℕ) → AreBytes payload → Gives (λ (x : A). x) result (payload_at read payload) →
+    GivesValue (Spelled text Fits) result payload
 gives_value text Fits read r (Ok value) payload h e = payload_takes text Fits read r payload value h e
 gives_value text Fits read r (Err faults.Malformed) payload h e = spells_none text Fits read r payload e
 gives_value text Fits read r (Err faults.NoMemory) payload h e = tt

@@ -56,4 +56,10 @@ recorded_length place outcome = omega (arith, length-append (number_bytes w64 pl
 pub record_length : (r : Record) → length (record_bytes r) ≡ 4 + length (act_bytes r.act) + length (outcome_bytes r.outcome)
 unfolding record_bytes
 record_length r =
-    omega (arith, length-append (number_bytes w32 r.actor ++ act_bytes r.act) (outcome_bytes r.outcome), length-append (number_bytes w32 r.actor) (act_bytes r.act), short_number r.actor)
+    omega (
+      arith,
+      length-append (number_bytes w32 r.actor ++ act_bytes r.act) (outcome_bytes r.outcome),
+      length-append (number_bytes w32 r.actor)
+          (act_bytes r.act),
+      short_number r.actor,
+    )

@@ -25,7 +25,8 @@ same_payload bytes more there =
     ∙ ap (λ (rest : List ℕ). take (told_length bytes) rest) (drop-append-le 4 bytes more (omega arith))
     ∙ take-append-le (told_length bytes) (drop 4 bytes) more (omega (arith, length-drop 4 bytes))
 
-pub stays_malformed : {A : Type 0} (Spells : A → List ℕ → Type 0) (most : ℕ) (bytes more : List ℕ) → IsMalformed Spells most bytes → IsMalformed Spells most (bytes ++ more)
+pub stays_malformed : {A : Type 0} (Spells : A → List ℕ → Type 0) (most : ℕ) (bytes more : List ℕ) → IsMalformed Spells most bytes →
+    IsMalformed Spells most (bytes ++ more)
 stays_malformed Spells most bytes more h = record {
   few = omega (arith, h.few, same_length bytes more (omega (arith, h.there)));
   there = omega (arith, h.there, same_length bytes more (omega (arith, h.there)), length-append bytes more);
@@ -83,7 +84,8 @@ rest_held Spells most old new piece taken stops.Malformed h k = tt
 rest_held Spells most old new piece taken stops.TooLong h k = tt
 
 -- no frame is complete
-pub reads_none : {A T : Type 0} (Spells : A → List ℕ → Type 0) (most : ℕ) (takes : T → T → A → Bool → Type 0) (old new piece : List ℕ) (taken : ℕ) (taker : T) (stop : Stop)
+pub reads_none : {A T : Type 0} (Spells : A → List ℕ → Type 0) (most : ℕ) (takes : T → T → A → Bool → Type 0) (old new piece : List ℕ) (taken : ℕ) (taker : T)
+    (stop : Stop)
     → Completes most old new piece taken → StopsWith Spells most new stop → ReadsTo Spells most takes (old ++ piece) new taker taker (reads.Up 0 stop)
 reads_none Spells most takes old new piece taken taker stop h k = (
   [],
@@ -100,7 +102,8 @@ reads_none Spells most takes old new piece taken taker stop h k = (
 )
 
 -- the first frame is all that is held
-one_frame : {A : Type 0} (Spells : A → List ℕ → Type 0) (most : ℕ) (old new piece : List ℕ) (taken : ℕ) (value : A) (len : ℕ) → Completes most old new piece taken
+one_frame : {A : Type 0} (Spells : A → List ℕ → Type 0) (most : ℕ) (old new piece : List ℕ) (taken : ℕ) (value : A) (len : ℕ) →
+    Completes most old new piece taken
     → IsWhole Spells most value len new → length new ≡ len
 one_frame Spells most old new piece taken value len h k =
     elim h.ends [
@@ -117,20 +120,24 @@ one_frame Spells most old new piece taken value len h k =
     ]
 
 -- the first frame
-first_frame : {A : Type 0} (Spells : A → List ℕ → Type 0) (most : ℕ) (old new piece : List ℕ) (taken : ℕ) (value : A) (len : ℕ) → Completes most old new piece taken
+first_frame : {A : Type 0} (Spells : A → List ℕ → Type 0) (most : ℕ) (old new piece : List ℕ) (taken : ℕ) (value : A) (len : ℕ) →
+    Completes most old new piece taken
     → IsWhole Spells most value len new → IsFrame Spells most value new
 first_frame Spells most old new piece taken value len h k =
     let long : length new ≡ len = one_frame Spells most old new piece taken value len h k in
     subst (λ (text : List ℕ). IsFrame Spells most value text) (take_all len new (omega arith)) k.first
 
 -- the first frame, frames in the rest of the piece, and what comes after them
-joined_more : (most : ℕ) (old new piece text rest : List ℕ) (taken : ℕ) → Completes most old new piece taken → drop taken piece ≡ text ++ rest → old ++ piece ≡ (new ++ text) ++ rest
+joined_more : (most : ℕ) (old new piece text rest : List ℕ) (taken : ℕ) → Completes most old new piece taken → drop taken piece ≡ text ++ rest →
+    old ++ piece ≡ (new ++ text) ++ rest
 joined_more most old new piece text rest taken h is =
     sym (joined most old new piece taken h) ∙ ap (λ (bytes : List ℕ). new ++ bytes) is ∙ sym (append_assoc new text rest)
 
 -- the first frame, after whose value no more is wanted
-pub enough_at_first : {A T : Type 0} (Spells : A → List ℕ → Type 0) (most : ℕ) (takes : T → T → A → Bool → Type 0) (old new piece : List ℕ) (taken : ℕ) (value : A) (len : ℕ) (before after : T)
-    → Completes most old new piece taken → IsWhole Spells most value len new → takes before after value false → HasEnough Spells most takes (old ++ piece) before after
+pub enough_at_first : {A T : Type 0} (Spells : A → List ℕ → Type 0) (most : ℕ) (takes : T → T → A → Bool → Type 0) (old new piece : List ℕ) (taken : ℕ)
+    (value : A) (len : ℕ) (before after : T)
+    → Completes most old new piece taken → IsWhole Spells most value len new → takes before after value false →
+    HasEnough Spells most takes (old ++ piece) before after
 enough_at_first Spells most takes old new piece taken value len before after h k takes_it = record {
   values = value ∷ [];
   text = new;
@@ -141,8 +148,10 @@ enough_at_first Spells most takes old new piece taken value len before after h k
 }
 
 -- the first frame, and those in the rest of the piece
-pub reads_more : {A T : Type 0} (Spells : A → List ℕ → Type 0) (most : ℕ) (takes : T → T → A → Bool → Type 0) (old new piece held : List ℕ) (taken : ℕ) (value : A) (len : ℕ) (before mid after : T) (read : Read)
-    → Completes most old new piece taken → IsWhole Spells most value len new → takes before mid value true → ReadsTo Spells most takes (drop taken piece) held mid after read
+pub reads_more : {A T : Type 0} (Spells : A → List ℕ → Type 0) (most : ℕ) (takes : T → T → A → Bool → Type 0) (old new piece held : List ℕ) (taken : ℕ)
+    (value : A) (len : ℕ) (before mid after : T) (read : Read)
+    → Completes most old new piece taken → IsWhole Spells most value len new → takes before mid value true →
+    ReadsTo Spells most takes (drop taken piece) held mid after read
     → ReadsTo Spells most takes (old ++ piece) held before after (further read len)
 reads_more Spells most takes old new piece held taken value len before mid after (reads.Up used stop) h k takes_it m =
     let r = m.1 in
@@ -177,15 +186,18 @@ reads_more {A} Spells most takes old new piece held taken value len before mid a
 
 -- ---- the decoder
 
-goes_from : (new : DecoderState) (before : ℕ) (rest : List ℕ) (stop : Stop) → new.before ≡ told_place before → HoldsRest new.held rest stop → GoesFrom new before rest stop
+goes_from : (new : DecoderState) (before : ℕ) (rest : List ℕ) (stop : Stop) → new.before ≡ told_place before → HoldsRest new.held rest stop →
+    GoesFrom new before rest stop
 goes_from new before rest stops.Short e h = (e, h)
 goes_from new before rest stops.Malformed e h = tt
 goes_from new before rest stops.TooLong e h = tt
 
 -- a decoder without a fault reads on
-pub goes_on : {A T : Type 0} (Spells : A → List ℕ → Type 0) (most : ℕ) (takes : T → T → A → Bool → Type 0) (old new : DecoderState) (piece : List ℕ) (before after : T) (used : ℕ) (stop : Stop)
+pub goes_on : {A T : Type 0} (Spells : A → List ℕ → Type 0) (most : ℕ) (takes : T → T → A → Bool → Type 0) (old new : DecoderState) (piece : List ℕ)
+    (before after : T) (used : ℕ) (stop : Stop)
     → old.progress ≡ progress.More → ReadsTo Spells most takes (old.held ++ piece) new.held before after (reads.Up used stop)
-    → new.before ≡ told_place (old.before + used) → new.progress ≡ told_progress new.before stop → FeedsTo Spells most takes old new piece before after (fed.All new.progress)
+    → new.before ≡ told_place (old.before + used) → new.progress ≡ told_progress new.before stop → FeedsTo Spells most takes old new piece before after
+    (fed.All new.progress)
 goes_on {A} Spells most takes old new piece before after used stop more m e p =
     let h = m.1 in
     let place : new.before ≡ told_place (old.before + length h.text) = omega (arith, e, h.long) in (

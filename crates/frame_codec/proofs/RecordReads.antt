@@ -28,7 +28,8 @@ use Rattle.frame_codec.proofs.AnswerReads.{outcome_reads}
 
 -- a call has the byte of no other act
 abbrev IsNext : Call → Type 0
-IsNext call = (bytes : List ℕ) → tagged_or act_rows (as_at call_at acts.Call) (parts_bytes (frame_parts call) ++ bytes) ≡ as_at call_at acts.Call (parts_bytes (frame_parts call) ++ bytes)
+IsNext call = (bytes : List ℕ) → tagged_or act_rows (as_at call_at acts.Call) (parts_bytes (frame_parts call) ++ bytes) ≡ as_at call_at acts.Call
+    (parts_bytes (frame_parts call) ++ bytes)
 
 is_next : (call : Call) → IsNext call
 is_next (calls.Close fd) = λ bytes. refl

@@ -20,7 +20,8 @@ use Rattle.frame_codec.proofs.FieldReads.{Below32, reads32, field_reads}
 
 -- ---- calls
 
-fields_again : (ks : List FieldKind) (make : Makes ks) (vs : Values ks) (rest : List ℕ) → FieldsFit ks vs → fields_at ks make (fields_bytes ks vs ++ rest) ≡ Some (made ks make vs, rest)
+fields_again : (ks : List FieldKind) (make : Makes ks) (vs : Values ks) (rest : List ℕ) → FieldsFit ks vs → fields_at ks make (fields_bytes ks vs ++ rest)
+    ≡ Some (made ks make vs, rest)
 fields_again [] make vs rest h = refl
 fields_again (k ∷ ks) make vs rest h =
     ap (fields_at (k ∷ ks) make) (append_assoc (field_bytes k vs.0) (fields_bytes ks vs.1) rest)
@@ -35,10 +36,18 @@ record Found (ks : List FieldKind) (make : Makes ks) (bytes : List ℕ) (x : Cal
   rest : AreBytes x.1
   is : made ks make values ≡ x.0
 
-fields_take : (ks : List FieldKind) (make : Makes ks) (bytes : List ℕ) (x : Call × List ℕ) → AreBytes bytes → fields_at ks make bytes ≡ Some x → Found ks make bytes x
+fields_take : (ks : List FieldKind) (make : Makes ks) (bytes : List ℕ) (x : Call × List ℕ) → AreBytes bytes → fields_at ks make bytes ≡ Some x →
+    Found ks make bytes x
 fields_take [] make bytes x h e =
     let same = some_is (make, bytes) x e in
-    record { values = tt; parts = ap (λ (p : Call × List ℕ). p.1) same; fits = tt; rest = subst (λ (p : Call × List ℕ). AreBytes p.1) same h; is = ap (λ (p : Call × List ℕ). p.0) same }
+    record {
+      values = tt;
+      parts = ap (λ (p : Call × List ℕ). p.1) same;
+      fits = tt;
+      rest = subst (λ (p : Call × List ℕ). AreBytes p.1) same h;
+      is =
+          ap (λ (p : Call × List ℕ). p.0) same;
+    }
 fields_take (k ∷ ks) make bytes x h e =
     let s = bind_some (field_at k bytes) (λ (value : Value k × List ℕ). fields_at ks (make value.0) value.1) x e in
     let t = (field_reads k).takes bytes s.0 h s.1 in
@@ -64,14 +73,16 @@ record IsOf (bytes rest : List ℕ) (p : Parts) : Type 0 where
   fits : FieldsFit p.entry.fields p.values
   after : AreBytes rest
 
-entry_takes : (e : Entry) (bytes : List ℕ) (x : Call × List ℕ) → FrameParted e → AreBytes bytes → entry_at e bytes ≡ Some x → IsOf (e.byte ∷ bytes) x.1 (frame_parts x.0)
+entry_takes : (e : Entry) (bytes : List ℕ) (x : Call × List ℕ) → FrameParted e → AreBytes bytes → entry_at e bytes ≡ Some x →
+    IsOf (e.byte ∷ bytes) x.1 (frame_parts x.0)
 entry_takes e bytes x p h r =
     let f = fields_take e.fields e.make bytes x h r in
     subst (λ (c : Call). IsOf (e.byte ∷ bytes) x.1 (frame_parts c)) f.is
     (subst (λ (q : Parts). IsOf (e.byte ∷ bytes) x.1 q) (sym (p f.values))
     (record { parts = ap (λ (bs : List ℕ). e.byte ∷ bs) f.parts; fits = f.fits; after = f.rest }))
 
-entries_take : (es : List Entry) (b : ℕ) (bytes : List ℕ) (x : Call × List ℕ) → AllByRecursion FrameParted es → AreBytes bytes → one_of (rows_of es) b bytes ≡ Some x → IsOf (b ∷ bytes) x.1 (frame_parts x.0)
+entries_take : (es : List Entry) (b : ℕ) (bytes : List ℕ) (x : Call × List ℕ) → AllByRecursion FrameParted es → AreBytes bytes →
+    one_of (rows_of es) b bytes ≡ Some x → IsOf (b ∷ bytes) x.1 (frame_parts x.0)
 entries_take [] b bytes x p h r = absurd cc
 entries_take (e ∷ es) b bytes x p h r =
     elim (chosen (eqb b e.byte) (entry_at e bytes) (one_of (rows_of es) b bytes) (Some x) r) [

@@ -42,7 +42,8 @@ act_reads (acts.Call call) h = call_reads call h
 act_reads acts.Resume h = omega arith
 act_reads other h = absurd h
 
-both_short : (act : Act) (outcome : Outcome) → ActFits act → OutcomeFits outcome → DataIsRead act outcome → length (act_bytes act) + length (outcome_bytes outcome) ≤ 66044
+both_short : (act : Act) (outcome : Outcome) → ActFits act → OutcomeFits outcome → DataIsRead act outcome →
+    length (act_bytes act) + length (outcome_bytes outcome) ≤ 66044
 unfolding number_bytes
 both_short act (outcomes.Reply (replies.Data bytes)) h k d = omega (arith, act_reads act d, k.1)
 both_short act other h k d = omega (arith, act_short act h)

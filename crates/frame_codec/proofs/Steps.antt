@@ -96,7 +96,8 @@ two {A} {B} ta fa ra tb fb rb a b = record {
       let second = bind_some (rb first.0.1) (λ (z : B × List ℕ). Some ((first.0.0, z.0), z.1)) x first.2 in
       let front = a.takes bytes first.0 h first.1 in
       let back = b.takes first.0.1 second.0 front.rest second.1 in
-      subst (λ (y : (A × B) × List ℕ). Taken (λ (p : A × B). ta p.0 ++ tb p.1) (λ (p : A × B). fa p.0 × fb p.1) bytes y) (some_is ((first.0.0, second.0.0), second.0.1) x second.2)
+      subst (λ (y : (A × B) × List ℕ). Taken (λ (p : A × B). ta p.0 ++ tb p.1) (λ (p : A × B). fa p.0 × fb p.1) bytes y)
+      (some_is ((first.0.0, second.0.0), second.0.1) x second.2)
       (record {
         parts = front.parts ∙ ap (λ (bs : List ℕ). ta first.0.0 ++ bs) back.parts ∙ sym (append_assoc (ta first.0.0) (tb second.0.0) second.0.1);
         fits = (front.fits, back.fits);
@@ -121,7 +122,8 @@ converted {A} {B} text fa read there back fb r into from = record {
 
 -- a value that passes a test
 pub passed : {A : Type 0} (text : A → List ℕ) (Fits Passes : A → Type 0) (read : Reading A) (test : A → Bool)
-    → Reads text Fits read → ((v : A) → Passes v → test v ≡ true) → ((v : A) → test v ≡ true → Passes v) → Reads text (λ (v : A). Fits v × Passes v) (tested test read)
+    → Reads text Fits read → ((v : A) → Passes v → test v ≡ true) → ((v : A) → test v ≡ true → Passes v) → Reads text (λ (v : A). Fits v × Passes v)
+    (tested test read)
 passed {A} text Fits Passes read test r into from = record {
   again = λ v rest h.
       ap (λ (o : Option (A × List ℕ)). o >>= λ x. cond (test x.0) (Some x) None) (r.again v rest h.0)
@@ -184,7 +186,8 @@ remade {A} {B} text Fits t f read make r is fits = λ bytes x h e.
     (record { parts = k.parts ∙ ap (λ (bs : List ℕ). bs ++ s.0.1) (sym (is s.0.0)); fits = fits s.0.0 k.fits; rest = k.rest })
 
 rows_or_take : {A : Type 0} (text : A → List ℕ) (Fits : A → Type 0) (rows : List (Row A)) (other : Reading A) (b : ℕ) (bytes : List ℕ) (x : A × List ℕ)
-    → AllByRecursion (RowTakes text Fits) rows → TakesText text Fits other → AreBytes (b ∷ bytes) → one_or rows other b bytes ≡ Some x → Taken text Fits (b ∷ bytes) x
+    → AllByRecursion (RowTakes text Fits) rows → TakesText text Fits other → AreBytes (b ∷ bytes) → one_or rows other b bytes ≡ Some x →
+    Taken text Fits (b ∷ bytes) x
 rows_or_take text Fits [] other b bytes x p q h e = q (b ∷ bytes) x h e
 rows_or_take text Fits (row ∷ rows) other b bytes x p q h e =
     elim (chosen (eqb b row.0) (row.1 bytes) (one_or rows other b bytes) (Some x) e) [
@@ -199,7 +202,8 @@ tagged_or_takes text Fits rows other p q (b ∷ bytes) x h e = rows_or_take text
 
 -- ---- whole payloads
 
-pub payload_again : {A : Type 0} (text : A → List ℕ) (Fits : A → Type 0) (read : Reading A) → Reads text Fits read → (value : A) → Fits value → payload_at read (text value) ≡ Some value
+pub payload_again : {A : Type 0} (text : A → List ℕ) (Fits : A → Type 0) (read : Reading A) → Reads text Fits read → (value : A) → Fits value →
+    payload_at read (text value) ≡ Some value
 payload_again {A} text Fits read r value h =
     ap (payload_at read) (sym (append-nil (text value)))
     ∙ ap (λ (o : Option (A × List ℕ)). o >>= λ x. whole x.0 x.1) (r.again value [] h)

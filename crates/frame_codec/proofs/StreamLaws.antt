@@ -47,7 +47,8 @@ frame_long : (payload more : List ℕ) → length (frame payload ++ more) ≡ 4 
 unfolding number_bytes
 frame_long payload more = omega (arith, length-append payload more)
 
-no_stop : {A : Type 0} (Spells : A → List ℕ → Type 0) (most : ℕ) (value : A) (bytes : List ℕ) (stop : Stop) (few : ℕ) (more : ℕ) → few ≤ most → told_length bytes ≡ few
+no_stop : {A : Type 0} (Spells : A → List ℕ → Type 0) (most : ℕ) (value : A) (bytes : List ℕ) (stop : Stop) (few : ℕ) (more : ℕ) → few ≤ most →
+    told_length bytes ≡ few
     → length bytes ≡ 4 + few + more → Spells value (told_payload bytes) → StopsWith Spells most bytes stop → ⊥
 no_stop Spells most value bytes stops.Short few more le told long spelled h =
     elim h [
@@ -57,14 +58,16 @@ no_stop Spells most value bytes stops.Short few more le told long spelled h =
 no_stop Spells most value bytes stops.Malformed few more le told long spelled h = h.none value spelled
 no_stop Spells most value bytes stops.TooLong few more le told long spelled h = omega (arith, le, told, h.1)
 
-not_stopped : {A : Type 0} (Spells : A → List ℕ → Type 0) (most : ℕ) (value : A) (first more bytes : List ℕ) (stop : Stop) → most < 2 ^ 32 → IsFrame Spells most value first
+not_stopped : {A : Type 0} (Spells : A → List ℕ → Type 0) (most : ℕ) (value : A) (first more bytes : List ℕ) (stop : Stop) → most < 2 ^ 32 →
+    IsFrame Spells most value first
     → bytes ≡ first ++ more → StopsWith Spells most bytes stop → ⊥
 not_stopped {A} Spells most value first more bytes stop small f e h =
     let bytes_are : bytes ≡ frame f.payload ++ more = e ∙ ap (λ (text : List ℕ). text ++ more) f.is in
     let told : told_length bytes ≡ length f.payload = ap told_length bytes_are ∙ frame_length f.payload more (omega (arith, f.few, small)) in
     let long : length bytes ≡ 4 + length f.payload + length more = ap length bytes_are ∙ frame_long f.payload more in
     no_stop Spells most value bytes stop (length f.payload) (length more) f.few told long
-    (subst (λ (payload : List ℕ). Spells value payload) (sym (ap told_payload bytes_are ∙ frame_payload f.payload more (omega (arith, f.few, small)))) f.spelled) h
+    (subst (λ (payload : List ℕ). Spells value payload) (sym (ap told_payload bytes_are ∙ frame_payload f.payload more (omega (arith, f.few, small))))
+    f.spelled) h
 
 short_there : (most : ℕ) (bytes : List ℕ) → IsShort most bytes → 4 + told_length bytes ≤ length bytes → told_length bytes ≤ most → ⊥
 short_there most bytes h there few =
@@ -81,7 +84,8 @@ short_few most bytes h long =
     ]
 
 -- a stream stops for one reason
-one_stop : {A : Type 0} (Spells : A → List ℕ → Type 0) (most : ℕ) (bytes : List ℕ) (stop other : Stop) → StopsWith Spells most bytes stop → StopsWith Spells most bytes other → stop ≡ other
+one_stop : {A : Type 0} (Spells : A → List ℕ → Type 0) (most : ℕ) (bytes : List ℕ) (stop other : Stop) → StopsWith Spells most bytes stop →
+    StopsWith Spells most bytes other → stop ≡ other
 one_stop Spells most bytes stops.Short stops.Short h k = refl
 one_stop Spells most bytes stops.Short stops.Malformed h k = absurd (short_there most bytes h k.there k.few)
 one_stop Spells most bytes stops.Short stops.TooLong h k = absurd (short_few most bytes h k)
@@ -105,17 +109,20 @@ no_frame_there Spells most small = λ value first more f h.
 -- ---- one reading
 
 -- the frames of a list that a stop follows go on as those of any other that begins the same bytes
-front_of : {A : Type 0} (Spells : A → List ℕ → Type 0) (most : ℕ) → most < 2 ^ 32 → OneValue Spells → (values others : List A) (text rest text2 rest2 : List ℕ) (stop : Stop)
+front_of : {A : Type 0} (Spells : A → List ℕ → Type 0) (most : ℕ) → most < 2 ^ 32 → OneValue Spells → (values others : List A) (text rest text2 rest2 : List ℕ)
+    (stop : Stop)
     → AreFrames Spells most values text → StopsWith Spells most rest stop → AreFrames Spells most others text2 → text ++ rest ≡ text2 ++ rest2
     → (more : List A) × (left : List ℕ) × (values ≡ others ++ more) × AreFrames Spells most more left × (rest2 ≡ left ++ rest)
 front_of Spells most small one values [] text rest text2 rest2 stop f h g e =
     (values, text, refl, f, sym (e ∙ ap (λ (front : List ℕ). front ++ rest2) g))
 front_of Spells most small one [] (other ∷ others) text rest text2 rest2 stop f h g e =
-    let bytes : rest ≡ g.0 ++ (g.1 ++ rest2) = ap (λ (front : List ℕ). front ++ rest) (sym f) ∙ e ∙ ap (λ (front : List ℕ). front ++ rest2) g.2 ∙ append_assoc g.0 g.1 rest2 in
+    let bytes : rest ≡ g.0 ++ (g.1 ++ rest2) = ap (λ (front : List ℕ). front ++ rest) (sym f) ∙ e ∙ ap (λ (front : List ℕ). front ++ rest2) g.2 ∙
+    append_assoc g.0 g.1 rest2 in
     absurd (not_stopped Spells most other g.0 (g.1 ++ rest2) rest stop small g.3 bytes h)
 front_of {A} Spells most small one (value ∷ values) (other ∷ others) text rest text2 rest2 stop f h g e =
     let bytes : f.0 ++ (f.1 ++ rest) ≡ g.0 ++ (g.1 ++ rest2) =
-    sym (append_assoc f.0 f.1 rest) ∙ ap (λ (front : List ℕ). front ++ rest) (sym f.2) ∙ e ∙ ap (λ (front : List ℕ). front ++ rest2) g.2 ∙ append_assoc g.0 g.1 rest2 in
+    sym (append_assoc f.0 f.1 rest) ∙ ap (λ (front : List ℕ). front ++ rest) (sym f.2) ∙ e ∙ ap (λ (front : List ℕ). front ++ rest2) g.2 ∙
+    append_assoc g.0 g.1 rest2 in
     let same = one_form Spells most small one value other f.0 g.0 (f.1 ++ rest) (g.1 ++ rest2) f.3 g.3 bytes in
     let next = front_of Spells most small one values others f.1 rest g.1 rest2 stop f.4 h g.4 same.2 in
     (next.0, next.1, ap (λ (v : A). v ∷ values) same.0 ∙ ap (λ (vs : List A). other ∷ vs) next.2, next.3, next.4)
@@ -126,7 +133,8 @@ longest Spells most small one = λ bytes values others told text rest h g e.
     (f.0, f.2)
 
 -- where both stop, nothing goes on
-both_stop : {A : Type 0} (Spells : A → List ℕ → Type 0) (most : ℕ) (more : List A) (left rest2 rest : List ℕ) (stop : Stop) → most < 2 ^ 32 → AreFrames Spells most more left
+both_stop : {A : Type 0} (Spells : A → List ℕ → Type 0) (most : ℕ) (more : List A) (left rest2 rest : List ℕ) (stop : Stop) → most < 2 ^ 32 →
+    AreFrames Spells most more left
     → rest2 ≡ left ++ rest → StopsWith Spells most rest2 stop → (more ≡ []) × (rest2 ≡ rest)
 both_stop Spells most [] left rest2 rest stop small f e h = (refl, e ∙ ap (λ (front : List ℕ). front ++ rest) f)
 both_stop Spells most (value ∷ more) left rest2 rest stop small f e h =
@@ -136,15 +144,25 @@ pub one_reading : {A : Type 0} (Spells : A → List ℕ → Type 0) (most : ℕ)
 one_reading {A} Spells most small one = λ bytes values others told other h k.
     let f = front_of Spells most small one values others h.text h.rest k.text k.rest h.stop h.frames h.stops k.frames (sym h.is ∙ k.is) in
     let ends = both_stop Spells most f.0 f.1 k.rest h.rest k.stop small f.3 f.4 k.stops in
-    let long : length h.text ≡ length k.text = omega (arith, ap length h.is, ap length k.is, length-append h.text h.rest, length-append k.text k.rest, ap length ends.1) in
-    let stop : h.stop ≡ k.stop = one_stop Spells most h.rest h.stop k.stop h.stops (subst (λ (left : List ℕ). StopsWith Spells most left k.stop) ends.1 k.stops) in (
+    let long : length h.text ≡ length k.text = omega (
+      arith,
+      ap length h.is,
+      ap length k.is,
+      length-append h.text h.rest,
+      length-append k.text k.rest,
+      ap length ends.1,
+    ) in
+    let stop : h.stop ≡ k.stop = one_stop Spells most h.rest h.stop k.stop h.stops
+    (subst (λ (left : List ℕ). StopsWith Spells most left k.stop) ends.1 k.stops) in (
       f.2 ∙ ap (λ (more : List A). others ++ more) ends.0 ∙ append-nil others,
-      h.tells ∙ ap (λ (n : ℕ). told_progress (told_place (0 + n)) h.stop) long ∙ ap (λ (s : Stop). told_progress (told_place (0 + length k.text)) s) stop ∙ sym k.tells,
+      h.tells ∙ ap (λ (n : ℕ). told_progress (told_place (0 + n)) h.stop) long ∙ ap (λ (s : Stop). told_progress (told_place (0 + length k.text)) s) stop ∙
+          sym k.tells,
     )
 
 -- ---- pieces
 
-frames_join : {A : Type 0} (Spells : A → List ℕ → Type 0) (most : ℕ) (values others : List A) (text text2 : List ℕ) → AreFrames Spells most values text → AreFrames Spells most others text2
+frames_join : {A : Type 0} (Spells : A → List ℕ → Type 0) (most : ℕ) (values others : List A) (text text2 : List ℕ) → AreFrames Spells most values text →
+    AreFrames Spells most others text2
     → AreFrames Spells most (values ++ others) (text ++ text2)
 frames_join Spells most [] others text text2 f g = subst (λ (bytes : List ℕ). AreFrames Spells most others (bytes ++ text2)) (sym f) g
 frames_join Spells most (value ∷ values) others text text2 f g =
@@ -161,14 +179,16 @@ is_short place stops.Short e = refl
 is_short place stops.Malformed e = absurd cc
 is_short place stops.TooLong e = absurd cc
 
-still_stops : {A : Type 0} (Spells : A → List ℕ → Type 0) (most : ℕ) (rest piece : List ℕ) (stop : Stop) (told : Progress) (place : ℕ) → (told ≡ progress.More → ⊥)
+still_stops : {A : Type 0} (Spells : A → List ℕ → Type 0) (most : ℕ) (rest piece : List ℕ) (stop : Stop) (told : Progress) (place : ℕ) →
+    (told ≡ progress.More → ⊥)
     → told ≡ told_progress place stop → StopsWith Spells most rest stop → StopsWith Spells most (rest ++ piece) stop
 still_stops Spells most rest piece stops.Short told place fault e h = absurd (fault e)
 still_stops Spells most rest piece stops.Malformed told place fault e h = stays_malformed Spells most rest piece h
 still_stops Spells most rest piece stops.TooLong told place fault e h = stays_too_long most rest piece h
 
 -- after a fault nothing changes
-abbrev fault_stays : {A : Type 0} (Spells : A → List ℕ → Type 0) (most : ℕ) (bytes piece : List ℕ) (values : List A) (told : Progress) → (told ≡ progress.More → ⊥)
+abbrev fault_stays : {A : Type 0} (Spells : A → List ℕ → Type 0) (most : ℕ) (bytes piece : List ℕ) (values : List A) (told : Progress) →
+    (told ≡ progress.More → ⊥)
     → AreValues Spells most 0 bytes values told → AreValues Spells most 0 (bytes ++ piece) values told
 fault_stays Spells most bytes piece values told fault h = record {
   text = h.text;
@@ -180,24 +200,28 @@ fault_stays Spells most bytes piece values told fault h = record {
   tells = h.tells;
 }
 
-still_goes : (new : DecoderState) (before other : ℕ) (rest : List ℕ) (stop : Stop) → told_place before ≡ told_place other → GoesFrom new before rest stop → GoesFrom new other rest stop
+still_goes : (new : DecoderState) (before other : ℕ) (rest : List ℕ) (stop : Stop) → told_place before ≡ told_place other → GoesFrom new before rest stop →
+    GoesFrom new other rest stop
 still_goes new before other rest stops.Short e h = (h.0 ∙ e, h.1)
 still_goes new before other rest stops.Malformed e h = tt
 still_goes new before other rest stops.TooLong e h = tt
 
-goes_nowhere : (state : DecoderState) (before : ℕ) (rest other : List ℕ) (stop : Stop) → (state.progress ≡ progress.More → ⊥) → state.progress ≡ told_progress (told_place before) stop
+goes_nowhere : (state : DecoderState) (before : ℕ) (rest other : List ℕ) (stop : Stop) → (state.progress ≡ progress.More → ⊥) →
+    state.progress ≡ told_progress (told_place before) stop
     → GoesFrom state before rest stop → GoesFrom state before other stop
 goes_nowhere state before rest other stops.Short fault e h = absurd (fault e)
 goes_nowhere state before rest other stops.Malformed fault e h = tt
 goes_nowhere state before rest other stops.TooLong fault e h = tt
 
 -- a decoder without a fault, and a piece more
-goes_further : {A : Type 0} (Spells : A → List ℕ → Type 0) (most : ℕ) (bytes piece : List ℕ) (values first : List A) (old new : DecoderState) (told : Progress) → old.progress ≡ progress.More
+goes_further : {A : Type 0} (Spells : A → List ℕ → Type 0) (most : ℕ) (bytes piece : List ℕ) (values first : List A) (old new : DecoderState)
+    (told : Progress) → old.progress ≡ progress.More
     → Stands Spells most bytes values old → GoesOn Spells most old new piece first told → Stands Spells most (bytes ++ piece) (values ++ first) new
 goes_further {A} Spells most bytes piece values first old new told more h k =
     let short : h.are.stop ≡ stops.Short = is_short (told_place (0 + length h.are.text)) h.are.stop (sym more ∙ h.are.tells) in
     let from = subst (λ (stop : Stop). GoesFrom old (0 + length h.are.text) h.are.rest stop) short h.goes in
-    let place : told_place (old.before + length k.are.text) ≡ told_place (0 + length (h.are.text ++ k.are.text)) = omega (arith, from.0, length-append h.are.text k.are.text) in
+    let place : told_place (old.before + length k.are.text) ≡ told_place (0 + length (h.are.text ++ k.are.text)) =
+    omega (arith, from.0, length-append h.are.text k.are.text) in
     record {
       are = record {
         text = h.are.text ++ k.are.text;
@@ -214,7 +238,8 @@ goes_further {A} Spells most bytes piece values first old new told more h k =
       goes = still_goes new (old.before + length k.are.text) (0 + length (h.are.text ++ k.are.text)) k.are.rest k.are.stop place k.holds;
     }
 
-stays_so : {A : Type 0} (Spells : A → List ℕ → Type 0) (most : ℕ) (bytes piece : List ℕ) (values first : List A) (old new : DecoderState) (told : Progress) → (old.progress ≡ progress.More → ⊥)
+stays_so : {A : Type 0} (Spells : A → List ℕ → Type 0) (most : ℕ) (bytes piece : List ℕ) (values first : List A) (old new : DecoderState) (told : Progress) →
+    (old.progress ≡ progress.More → ⊥)
     → Stands Spells most bytes values old → StaysSo old new first told → Stands Spells most (bytes ++ piece) (values ++ first) new
 stays_so {A} Spells most bytes piece values first old new told fault h k =
     subst (λ (state : DecoderState). Stands Spells most (bytes ++ piece) (values ++ first) state) (sym k.same)
@@ -224,14 +249,19 @@ stays_so {A} Spells most bytes piece values first old new told fault h k =
       goes = goes_nowhere old (0 + length h.are.text) h.are.rest (h.are.rest ++ piece) h.are.stop fault h.are.tells h.goes;
     }))
 
-fed : {A : Type 0} (Spells : A → List ℕ → Type 0) (most : ℕ) (bytes piece : List ℕ) (values first : List A) (old new : DecoderState) (told so_far : Progress) → old.progress ≡ so_far
+fed : {A : Type 0} (Spells : A → List ℕ → Type 0) (most : ℕ) (bytes piece : List ℕ) (values first : List A) (old new : DecoderState) (told so_far : Progress) →
+    old.progress ≡ so_far
     → Stands Spells most bytes values old → FeedsFrom Spells most so_far old new piece first told → Stands Spells most (bytes ++ piece) (values ++ first) new
 fed Spells most bytes piece values first old new told progress.More e h k = goes_further Spells most bytes piece values first old new told e h k
-fed Spells most bytes piece values first old new told (progress.Malformed at) e h k = stays_so Spells most bytes piece values first old new told (λ more. absurd (let t = sym e ∙ more in cc)) h k
-fed Spells most bytes piece values first old new told (progress.TooLong at) e h k = stays_so Spells most bytes piece values first old new told (λ more. absurd (let t = sym e ∙ more in cc)) h k
+fed Spells most bytes piece values first old new told (progress.Malformed at) e h k = stays_so Spells most bytes piece values first old new told
+    (λ more. absurd (let t = sym e ∙ more in cc)) h k
+fed Spells most bytes piece values first old new told (progress.TooLong at) e h k = stays_so Spells most bytes piece values first old new told
+    (λ more. absurd (let t = sym e ∙ more in cc)) h k
 
-all_fed : {A : Type 0} (Spells : A → List ℕ → Type 0) (most : ℕ) (pieces : List (List ℕ)) (bytes : List ℕ) (before values : List A) (old new : DecoderState) (told : Progress)
-    → Stands Spells most bytes before old → FeedsAll Spells most old new pieces values told → AreValues Spells most 0 (bytes ++ concat pieces) (before ++ values) told
+all_fed : {A : Type 0} (Spells : A → List ℕ → Type 0) (most : ℕ) (pieces : List (List ℕ)) (bytes : List ℕ) (before values : List A) (old new : DecoderState)
+    (told : Progress)
+    → Stands Spells most bytes before old → FeedsAll Spells most old new pieces values told → AreValues Spells most 0 (bytes ++ concat pieces)
+    (before ++ values) told
 all_fed {A} Spells most [] bytes before values old new told h k =
     subst (λ (text : List ℕ). AreValues Spells most 0 text (before ++ values) told) (sym (append-nil bytes))
     (subst (λ (more : List A). AreValues Spells most 0 bytes more told) (sym (append-nil before) ∙ ap (λ (more : List A). before ++ more) (sym k.1))
@@ -240,7 +270,8 @@ all_fed {A} Spells most (piece ∷ pieces) bytes before values old new told h k 
     let next = fed Spells most bytes piece before k.1 old k.0 k.3 old.progress refl h k.4 in
     let rest = all_fed Spells most pieces (bytes ++ piece) (before ++ k.1) k.2 k.0 new told next k.5 in
     subst (λ (text : List ℕ). AreValues Spells most 0 text (before ++ values) told) (append_assoc bytes piece (concat pieces))
-    (subst (λ (more : List A). AreValues Spells most 0 ((bytes ++ piece) ++ concat pieces) more told) (append_assoc before k.1 k.2 ∙ ap (λ (more : List A). before ++ more) (sym k.6)) rest)
+    (subst (λ (more : List A). AreValues Spells most 0 ((bytes ++ piece) ++ concat pieces) more told) (append_assoc before k.1 k.2 ∙
+    ap (λ (more : List A). before ++ more) (sym k.6)) rest)
 
 pub cuts_do_not_matter : {A : Type 0} (Spells : A → List ℕ → Type 0) (most : ℕ) → CutsDoNotMatter Spells most
 cuts_do_not_matter Spells most = λ pieces new values told h.
@@ -253,15 +284,18 @@ cuts_do_not_matter Spells most = λ pieces new values told h.
 -- ---- fronts
 
 -- values are those of their frames, without a fault
-abbrev all_read : {A : Type 0} (Spells : A → List ℕ → Type 0) (most : ℕ) (all : List A) (bytes : List ℕ) → AreFrames Spells most all bytes → AreValues Spells most 0 bytes all progress.More
+abbrev all_read : {A : Type 0} (Spells : A → List ℕ → Type 0) (most : ℕ) (all : List A) (bytes : List ℕ) → AreFrames Spells most all bytes →
+    AreValues Spells most 0 bytes all progress.More
 all_read Spells most all bytes f =
     record { text = bytes; rest = []; stop = stops.Short; is = sym (append-nil bytes); frames = f; stops = inl (omega arith); tells = refl }
 
 -- a fault in a front is one of all the bytes
-no_fault : {A : Type 0} (Spells : A → List ℕ → Type 0) (most : ℕ) → most < 2 ^ 32 → OneValue Spells → (all values : List A) (read left : List ℕ) (told : Progress)
+no_fault : {A : Type 0} (Spells : A → List ℕ → Type 0) (most : ℕ) → most < 2 ^ 32 → OneValue Spells → (all values : List A) (read left : List ℕ)
+    (told : Progress)
     → AreFrames Spells most all (read ++ left) → AreValues Spells most 0 read values told → (told ≡ progress.More → ⊥) → ⊥
 no_fault Spells most small one all values read left told f h fault =
-    fault (sym (one_reading Spells most small one (read ++ left) all values progress.More told (all_read Spells most all (read ++ left) f) (fault_stays Spells most read left values told fault h)).1)
+    fault (sym (one_reading Spells most small one (read ++ left) all values progress.More told (all_read Spells most all (read ++ left) f)
+    (fault_stays Spells most read left values told fault h)).1)
 
 is_more : (told : Progress) → ((told ≡ progress.More → ⊥) → ⊥) → told ≡ progress.More
 is_more progress.More h = refl
@@ -278,8 +312,10 @@ front_reads Spells most small one = λ all values read left told f h.
 -- ---- what was given so far
 
 -- what was given of a stream, by why it stops
-gave_so : {A : Type 0} (Spells : A → List ℕ → Type 0) (most : ℕ) (stream : List ℕ) (values : List A) (new : DecoderState) (told : Progress) (text rest : List ℕ) (stop : Stop) (before : ℕ)
-    → stream ≡ text ++ rest → AreFrames Spells most values text → StopsWith Spells most rest stop → GoesFrom new before rest stop → told_place before ≡ told_place (length text)
+gave_so : {A : Type 0} (Spells : A → List ℕ → Type 0) (most : ℕ) (stream : List ℕ) (values : List A) (new : DecoderState) (told : Progress) (text rest : List ℕ)
+    (stop : Stop) (before : ℕ)
+    → stream ≡ text ++ rest → AreFrames Spells most values text → StopsWith Spells most rest stop → GoesFrom new before rest stop →
+    told_place before ≡ told_place (length text)
     → new.progress ≡ told → told ≡ told_progress (told_place before) stop → Gave Spells most stream values new told
 gave_so Spells most stream values new told text rest stops.Short before is frames short goes place stays tells =
     subst (λ (p : Progress). Gave Spells most stream values new p) (sym tells) (record {
@@ -291,16 +327,20 @@ gave_so Spells most stream values new told text rest stops.Short before is frame
       goes_on = stays ∙ tells;
     })
 gave_so Spells most stream values new told text rest stops.Malformed before is frames malformed goes place stays tells =
-    subst (λ (p : Progress). Gave Spells most stream values new p) (sym tells) (record { text = text; rest = rest; is = is; frames = frames; fault = (malformed, place) })
+    subst (λ (p : Progress). Gave Spells most stream values new p) (sym tells)
+    (record { text = text; rest = rest; is = is; frames = frames; fault = (malformed, place) })
 gave_so Spells most stream values new told text rest stops.TooLong before is frames long goes place stays tells =
-    subst (λ (p : Progress). Gave Spells most stream values new p) (sym tells) (record { text = text; rest = rest; is = is; frames = frames; fault = (long, place) })
+    subst (λ (p : Progress). Gave Spells most stream values new p) (sym tells)
+    (record { text = text; rest = rest; is = is; frames = frames; fault = (long, place) })
 
 gave_more : {A : Type 0} (Spells : A → List ℕ → Type 0) (most : ℕ) (stream piece : List ℕ) (values more : List A) (old new : DecoderState) (told : Progress)
     → HasGiven Spells most stream values old → GoesOn Spells most old new piece more told → Gave Spells most (stream ++ piece) (values ++ more) new told
 gave_more Spells most stream piece values more old new told h k =
     let is : stream ++ piece ≡ (h.text ++ k.are.text) ++ k.are.rest =
-    ap (λ (front : List ℕ). front ++ piece) h.is ∙ append_assoc h.text old.held piece ∙ ap (λ (rest : List ℕ). h.text ++ rest) k.are.is ∙ sym (append_assoc h.text k.are.text k.are.rest) in
-    let place : told_place (old.before + length k.are.text) ≡ told_place (length (h.text ++ k.are.text)) = omega (arith, h.before, length-append h.text k.are.text) in
+    ap (λ (front : List ℕ). front ++ piece) h.is ∙ append_assoc h.text old.held piece ∙ ap (λ (rest : List ℕ). h.text ++ rest) k.are.is ∙
+    sym (append_assoc h.text k.are.text k.are.rest) in
+    let place : told_place (old.before + length k.are.text) ≡ told_place (length (h.text ++ k.are.text)) =
+    omega (arith, h.before, length-append h.text k.are.text) in
     gave_so Spells most (stream ++ piece) (values ++ more) new told (h.text ++ k.are.text) k.are.rest k.are.stop (old.before + length k.are.text) is
     (frames_join Spells most values more h.text k.are.text h.frames k.are.frames) k.are.stops k.holds place k.stays k.are.tells
 

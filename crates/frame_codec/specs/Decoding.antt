@@ -42,7 +42,8 @@ GoesFrom new before rest stops.Short = (new.before ≡ told_place before) × (ne
 GoesFrom new before rest fault = Unit {0}
 
 -- a decoder without a fault reads on
-pub record GoesOn {A : Type 0} (Spells : A → List ℕ → Type 0) (most : ℕ) (old new : DecoderState) (piece : List ℕ) (values : List A) (told : Progress) : Type 0 where
+pub record GoesOn {A : Type 0} (Spells : A → List ℕ → Type 0) (most : ℕ) (old new : DecoderState) (piece : List ℕ) (values : List A)
+    (told : Progress) : Type 0 where
   pub are : AreValues Spells most old.before (old.held ++ piece) values told
   pub holds : GoesFrom new (old.before + length are.text) are.rest are.stop
   pub stays : new.progress ≡ told

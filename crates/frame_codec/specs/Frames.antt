@@ -25,7 +25,8 @@ HasNoFrame Spells most value = (bytes : List ℕ) → IsFrame Spells most value 
 -- the frames of values, one after another
 abbrev pub AreFrames : {A : Type 0} → (A → List ℕ → Type 0) → ℕ → List A → List ℕ → Type 0
 AreFrames Spells most [] bytes = bytes ≡ []
-AreFrames Spells most (value ∷ values) bytes = (first : List ℕ) × (rest : List ℕ) × (bytes ≡ first ++ rest) × IsFrame Spells most value first × AreFrames Spells most values rest
+AreFrames Spells most (value ∷ values) bytes = (first : List ℕ) × (rest : List ℕ) × (bytes ≡ first ++ rest) × IsFrame Spells most value first × AreFrames Spells
+    most values rest
 
 -- the length that the first four bytes tell
 abbrev pub told_length : List ℕ → ℕ

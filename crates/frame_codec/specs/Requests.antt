@@ -11,7 +11,13 @@ use Rattle.frame_codec.specs.Fields.{number_bytes, fields_bytes}
 
 -- in a frame the flags of an open stand before its name
 abbrev pub open_frame : Entry
-open_frame = record { word = open_entry.word; byte = open_entry.byte; fields = some_flags ∷ a_name ∷ []; make = λ bits name. calls.Open name (record { 0 = bits }) }
+open_frame = record {
+  word = open_entry.word;
+  byte = open_entry.byte;
+  fields = some_flags ∷ a_name ∷ [];
+  make =
+      λ bits name. calls.Open name (record { 0 = bits });
+}
 
 -- the parts of a call, in the order of frames
 abbrev pub frame_parts : Call → Parts

@@ -36,5 +36,6 @@ pub record HasEnough {A T : Type 0} (Spells : A → List ℕ → Type 0) (most :
 
 -- a piece more, whose values a taker is handed: it took all, or had enough, and then nothing is said of the decoder
 abbrev pub FeedsTo : {A T : Type 0} → (A → List ℕ → Type 0) → ℕ → (T → T → A → Bool → Type 0) → DecoderState → DecoderState → List ℕ → T → T → FedTo → Type 0
-FeedsTo {A} Spells most takes old new piece before after (fed.All told) = (values : List A) × Feeds Spells most old new piece values told × TakesAll takes before after values true
+FeedsTo {A} Spells most takes old new piece before after (fed.All told) = (values : List A) × Feeds Spells most old new piece values told × TakesAll takes
+    before after values true
 FeedsTo Spells most takes old new piece before after fed.Enough = (old.progress ≡ progress.More) × HasEnough Spells most takes (old.held ++ piece) before after

@@ -25,7 +25,8 @@ all_read None to bytes consumes end = tt
 all_read (Some known) None bytes consumes end = absurd consumes
 all_read (Some known) (Some left) bytes consumes end = sym (consumes ∙ ap (λ (x : List ℕ). bytes ++ x) end ∙ append-nil bytes)
 
-legal_judged : (from to : Option (List ℕ)) (bytes : List ℕ) (found : Finding) → Consumes from to bytes → IsAtEnd to → IsFinding bytes found → IsFoundOn from found
+legal_judged : (from to : Option (List ℕ)) (bytes : List ℕ) (found : Finding) → Consumes from to bytes → IsAtEnd to → IsFinding bytes found →
+    IsFoundOn from found
 legal_judged from to bytes found consumes end f = record { bytes = bytes; whole = all_read from to bytes consumes end; is_finding = f }
 
 -- what stays whatever comes after it holds of all
@@ -35,9 +36,11 @@ stays_judged None to bytes found consumes f stays = record { bytes = bytes; whol
 stays_judged (Some known) None bytes found consumes f stays = absurd consumes
 stays_judged (Some known) (Some left) bytes found consumes f stays = record { bytes = bytes ++ left; whole = sym consumes; is_finding = stays left }
 
-judged_so : (from to : LoggedReaderState) (bytes : List ℕ) (verdict : Verdict) (ending : Ending) → FaultStays → Consumes from.remaining to.remaining bytes → IsJudgedAt from to verdict
+judged_so : (from to : LoggedReaderState) (bytes : List ℕ) (verdict : Verdict) (ending : Ending) → FaultStays → Consumes from.remaining to.remaining bytes →
+    IsJudgedAt from to verdict
     → IsFinding bytes (record { verdict = verdict; ending = ending }) → IsFoundOn from.remaining (record { verdict = verdict; ending = ending })
-judged_so from to bytes (Legal records rest) ending stays consumes met f = legal_judged from.remaining to.remaining bytes (record { verdict = Legal records rest; ending = ending }) consumes met.0 f
+judged_so from to bytes (Legal records rest) ending stays consumes met f = legal_judged from.remaining to.remaining bytes
+    (record { verdict = Legal records rest; ending = ending }) consumes met.0 f
 judged_so from to bytes (Illegal place expected) ending stays consumes met f =
     stays_judged from.remaining to.remaining bytes (record { verdict = Illegal place expected; ending = ending }) consumes f
     (λ more. record { verdict = stays bytes more (Illegal place expected) tt f.verdict; ending = f.ending })
@@ -49,32 +52,38 @@ pub judged : (from to : LoggedReaderState) (found : Finding) → FaultStays → 
 judged from to found stays a = judged_so from to a.input found.verdict found.ending stays a.consumes a.met a.answers
 
 -- the ends of an audit whose verdict is written
-legal_written : (wanted : Demand) (records rest : ℕ) (ending : Ending) (input : Option (List ℕ)) (old new : LoggedWriterState) → WritesVerdict wanted input old new (legal_end wanted records rest ending)
+legal_written : (wanted : Demand) (records rest : ℕ) (ending : Ending) (input : Option (List ℕ)) (old new : LoggedWriterState) →
+    WritesVerdict wanted input old new (legal_end wanted records rest ending)
     → AuditEnds wanted input old new (legal_end wanted records rest ending)
 legal_written demand.Legal records rest ending input old new w = go (records == 0) w
   where
-    go : (b : Bool) → WritesVerdict demand.Legal input old new (if b then ended.NothingJudged else ended.Done) → AuditEnds demand.Legal input old new (if b then ended.NothingJudged else ended.Done)
+    go : (b : Bool) → WritesVerdict demand.Legal input old new (if b then ended.NothingJudged else ended.Done) →
+        AuditEnds demand.Legal input old new (if b then ended.NothingJudged else ended.Done)
     go true w = w
     go false w = w
 legal_written demand.Complete records rest Open input old new w = w
 legal_written demand.Complete records rest Closed input old new w = go (rest == 0) w
   where
-    go : (b : Bool) → WritesVerdict demand.Complete input old new (if b then ended.Done else ended.Incomplete) → AuditEnds demand.Complete input old new (if b then ended.Done else ended.Incomplete)
+    go : (b : Bool) → WritesVerdict demand.Complete input old new (if b then ended.Done else ended.Incomplete) →
+        AuditEnds demand.Complete input old new (if b then ended.Done else ended.Incomplete)
     go true w = w
     go false w = w
 
-all_written : (wanted : Demand) (verdict : Verdict) (ending : Ending) (input : Option (List ℕ)) (old new : LoggedWriterState) → WritesVerdict wanted input old new (verdict_end wanted verdict ending)
+all_written : (wanted : Demand) (verdict : Verdict) (ending : Ending) (input : Option (List ℕ)) (old new : LoggedWriterState) →
+    WritesVerdict wanted input old new (verdict_end wanted verdict ending)
     → AuditEnds wanted input old new (verdict_end wanted verdict ending)
 all_written wanted (Legal records rest) ending input old new w = legal_written wanted records rest ending input old new w
 all_written wanted (Illegal place expected) ending input old new w = w
 all_written wanted (Malformed at) ending input old new w = w
 
-pub verdict_written : (wanted : Demand) (input : Option (List ℕ)) (old new : LoggedWriterState) (found : Finding) (line : List ℕ) → IsFoundOn input found → line ≡ verdict_line found.verdict → Writes old new line
+pub verdict_written : (wanted : Demand) (input : Option (List ℕ)) (old new : LoggedWriterState) (found : Finding) (line : List ℕ) → IsFoundOn input found →
+    line ≡ verdict_line found.verdict → Writes old new line
     → AuditEnds wanted input old new (verdict_end wanted found.verdict found.ending)
 verdict_written wanted input old new found line j is writes =
     all_written wanted found.verdict found.ending input old new (record { found = found; judged = j; writes = subst (Writes old new) is writes; end_is = refl })
 
-pub front_written : (wanted : Demand) (input : Option (List ℕ)) (old new : LoggedWriterState) (found : Finding) (line : List ℕ) (end : JobEnd) → IsFoundOn input found → line ≡ verdict_line found.verdict → AppendsFront old new line
+pub front_written : (wanted : Demand) (input : Option (List ℕ)) (old new : LoggedWriterState) (found : Finding) (line : List ℕ) (end : JobEnd) →
+    IsFoundOn input found → line ≡ verdict_line found.verdict → AppendsFront old new line
     → end ≡ ended.CannotWrite → AuditEnds wanted input old new end
 front_written wanted input old new found line end j is front e =
     subst (AuditEnds wanted input old new) (sym e) (record { found = found; judged = j; front = subst (AppendsFront old new) is front })

@@ -57,17 +57,20 @@ stopped_on bytes more written at stays (inr before) = inr (record {
 all_so : (input : Option (List ℕ)) (P Q : List ℕ → Type 0) → OfAll input P → ((bytes : List ℕ) → P bytes → Q bytes) → OfAll input Q
 all_so input P Q all so = record { bytes = all.bytes; is = all.is; holds = so all.bytes all.holds }
 
-told_so : (input : Option (List ℕ)) (out : Outputs) (written line : List ℕ) (end : JobEnd) → OfAll input (λ bytes. ComesTo end bytes written line) → OfAll input (λ bytes. Tells out end bytes)
+told_so : (input : Option (List ℕ)) (out : Outputs) (written line : List ℕ) (end : JobEnd) → OfAll input (λ bytes. ComesTo end bytes written line) →
+    OfAll input (λ bytes. Tells out end bytes)
     → MigrateEnds input out end
 told_so input out written line ended.Done all tells = tells
 told_so input out written line ended.MalformedTrace all tells = tells
 told_so input out written line other all tells = absurd all.holds
 
-line_told : (input : Option (List ℕ)) (out : Outputs) (written line : List ℕ) (so end : JobEnd) → OfAll input (λ bytes. ComesTo so bytes written line) → Writes out.was out.is written
+line_told : (input : Option (List ℕ)) (out : Outputs) (written line : List ℕ) (so end : JobEnd) → OfAll input (λ bytes. ComesTo so bytes written line) →
+    Writes out.was out.is written
     → WritesLine line so out.old out.new end → MigrateEnds input out end
 line_told input out written line so end all adds (inl told) =
     subst (MigrateEnds input out) (sym told.0) (told_so input out written line so all
-    (all_so input (λ bytes. ComesTo so bytes written line) (Tells out so) all (λ bytes comes. record { written = written; line = line; comes = comes; adds = adds; writes = told.1 })))
+    (all_so input (λ bytes. ComesTo so bytes written line) (Tells out so) all
+    (λ bytes comes. record { written = written; line = line; comes = comes; adds = adds; writes = told.1 })))
 line_told input out written line so end all adds (inr (inl cannot)) =
     subst (MigrateEnds input out) (sym cannot.0)
     (inr (all_so input (λ bytes. ComesTo so bytes written line) (TellsFront out) all
@@ -79,50 +82,67 @@ line_told input out written line so end all adds (inr (inr memory)) =
 
 -- all was written anew
 pub whole_told : (from to : LoggedReaderState) (was is old new : LoggedWriterState) (migrated : Migrated) (end : JobEnd) → Migrates from to was is (Ok migrated)
-    → WritesLine (migrated_line migrated.records migrated.rest) ended.Done old new end → MigrateEnds from.remaining (record { was = was; is = is; old = old; new = new }) end
+    → WritesLine (migrated_line migrated.records migrated.rest) ended.Done old new end →
+    MigrateEnds from.remaining (record { was = was; is = is; old = old; new = new }) end
 whole_told from to was is old new migrated end m line =
     line_told from.remaining (record { was = was; is = is; old = old; new = new }) m.written (migrated_line migrated.records migrated.rest) ended.Done end
-    (of_all from.remaining to.remaining m.input (λ bytes. ComesTo ended.Done bytes m.written (migrated_line migrated.records migrated.rest)) m.consumes m.becomes.1
-    (record { records = migrated.records; rest = migrated.rest; migrated = m.becomes.0; line_is = refl })) (record { appends = m.appends; well = m.writes }) line
+    (of_all from.remaining to.remaining m.input (λ bytes. ComesTo ended.Done bytes m.written (migrated_line migrated.records migrated.rest)) m.consumes
+    m.becomes.1
+    (record { records = migrated.records; rest = migrated.rest; migrated = m.becomes.0; line_is = refl })) (record { appends = m.appends; well = m.writes })
+    line
 
 -- a fault was met
-pub halt_told : (from to : LoggedReaderState) (was is old new : LoggedWriterState) (at : ℕ) (end : JobEnd) → BrokenStays → Migrates from to was is (Err (faults.Malformed at))
+pub halt_told : (from to : LoggedReaderState) (was is old new : LoggedWriterState) (at : ℕ) (end : JobEnd) → BrokenStays →
+    Migrates from to was is (Err (faults.Malformed at))
     → WritesLine (stopped_line at) ended.MalformedTrace old new end → MigrateEnds from.remaining (record { was = was; is = is; old = old; new = new }) end
 halt_told from to was is old new at end stays m line =
     line_told from.remaining (record { was = was; is = is; old = old; new = new }) m.written (stopped_line at) ended.MalformedTrace end
     (of_all_on from.remaining to.remaining m.input (λ bytes. ComesTo ended.MalformedTrace bytes m.written (stopped_line at)) m.consumes
     (record { at = at; stopped = m.becomes; line_is = refl })
-    (λ more. record { at = at; stopped = stopped_on m.input more m.written at stays m.becomes; line_is = refl })) (record { appends = m.appends; well = m.writes }) line
+    (λ more. record { at = at; stopped = stopped_on m.input more m.written at stays m.becomes; line_is = refl }))
+    (record { appends = m.appends; well = m.writes }) line
 
 -- ---- a migration that was cut off
 
-broken_off : (from to : LoggedReaderState) (out : Outputs) (input written : List ℕ) → Consumes from.remaining to.remaining input → Writes out.was out.is written → out.new ≡ out.old
+broken_off : (from to : LoggedReaderState) (out : Outputs) (input written : List ℕ) → Consumes from.remaining to.remaining input →
+    Writes out.was out.is written → out.new ≡ out.old
     → IsBegun input written → BreaksOff from.remaining out
 broken_off from to out input written consumes adds same begun =
-    of_front from.remaining to.remaining input (λ bytes. Adds out (λ written. IsBegun bytes written)) consumes (record { written = written; holds = begun; adds = adds; same = same })
+    of_front from.remaining to.remaining input (λ bytes. Adds out (λ written. IsBegun bytes written)) consumes
+    (record { written = written; holds = begun; adds = adds; same = same })
 
-pub read_failed : (from to : LoggedReaderState) (was is old : LoggedWriterState) → Migrates from to was is (Err faults.Read) → MigrateEnds from.remaining (record { was = was; is = is; old = old; new = old }) ended.CannotRead
+pub read_failed : (from to : LoggedReaderState) (was is old : LoggedWriterState) → Migrates from to was is (Err faults.Read) →
+    MigrateEnds from.remaining (record { was = was; is = is; old = old; new = old }) ended.CannotRead
 read_failed from to was is old m =
-    broken_off from to (record { was = was; is = is; old = old; new = old }) m.input m.written m.consumes (record { appends = m.appends; well = m.writes }) refl m.becomes
+    broken_off from to (record { was = was; is = is; old = old; new = old }) m.input m.written m.consumes (record { appends = m.appends; well = m.writes }) refl
+    m.becomes
 
-pub memory_failed : (from to : LoggedReaderState) (was is old : LoggedWriterState) → Migrates from to was is (Err faults.NoMemory) → MigrateEnds from.remaining (record { was = was; is = is; old = old; new = old }) ended.NoMemory
+pub memory_failed : (from to : LoggedReaderState) (was is old : LoggedWriterState) → Migrates from to was is (Err faults.NoMemory) →
+    MigrateEnds from.remaining (record { was = was; is = is; old = old; new = old }) ended.NoMemory
 memory_failed from to was is old m =
-    inl (broken_off from to (record { was = was; is = is; old = old; new = old }) m.input m.written m.consumes (record { appends = m.appends; well = m.writes }) refl m.becomes)
+    inl (broken_off from to (record { was = was; is = is; old = old; new = old }) m.input m.written m.consumes (record { appends = m.appends; well = m.writes })
+    refl m.becomes)
 
-write_failed_so : (from to : LoggedReaderState) (was is old : LoggedWriterState) (sent : ℕ) (m : Migrates from to was is (Err (faults.Write sent))) → IsFrontWritten to m.input m.written
-    → BreaksDown from.remaining (record { was = was; is = is; old = old; new = old }) ⊎ EndsShort from.remaining (record { was = was; is = is; old = old; new = old })
+write_failed_so : (from to : LoggedReaderState) (was is old : LoggedWriterState) (sent : ℕ) (m : Migrates from to was is (Err (faults.Write sent))) →
+    IsFrontWritten to m.input m.written
+    → BreaksDown from.remaining (record { was = was; is = is; old = old; new = old }) ⊎ EndsShort from.remaining
+    (record { was = was; is = is; old = old; new = old })
 write_failed_so from to was is old sent m (inl begun) =
-    inl (of_front from.remaining to.remaining m.input (λ bytes. AddsFront (record { was = was; is = is; old = old; new = old }) (λ written. IsBegun bytes written)) m.consumes
+    inl (of_front from.remaining to.remaining m.input (λ bytes. AddsFront (record { was = was; is = is; old = old; new = old })
+    (λ written. IsBegun bytes written)) m.consumes
     (record { written = m.written; holds = begun; adds = m.appends; broken = m.becomes.broken; few = m.writes; same = refl }))
 write_failed_so from to was is old sent m (inr cut) =
-    inr (of_all from.remaining to.remaining m.input (λ bytes. AddsFront (record { was = was; is = is; old = old; new = old }) (λ written. IsCutOff bytes written)) m.consumes cut.0
+    inr (of_all from.remaining to.remaining m.input (λ bytes. AddsFront (record { was = was; is = is; old = old; new = old })
+    (λ written. IsCutOff bytes written)) m.consumes cut.0
     (record { written = m.written; holds = cut.1; adds = m.appends; broken = m.becomes.broken; few = m.writes; same = refl }))
 
-pub write_failed : (from to : LoggedReaderState) (was is old : LoggedWriterState) (sent : ℕ) → Migrates from to was is (Err (faults.Write sent)) → MigrateEnds from.remaining (record { was = was; is = is; old = old; new = old }) ended.CannotWrite
+pub write_failed : (from to : LoggedReaderState) (was is old : LoggedWriterState) (sent : ℕ) → Migrates from to was is (Err (faults.Write sent)) →
+    MigrateEnds from.remaining (record { was = was; is = is; old = old; new = old }) ended.CannotWrite
 write_failed from to was is old sent m = inl (write_failed_so from to was is old sent m m.becomes.front)
 
 -- a line is told of no read
-pub line_of_none : (line : List ℕ) (so : JobEnd) (old new : LoggedWriterState) (end : JobEnd) → WritesLine line so old new end → (so ≡ ended.CannotRead → ⊥) → end ≡ ended.CannotRead → ⊥
+pub line_of_none : (line : List ℕ) (so : JobEnd) (old new : LoggedWriterState) (end : JobEnd) → WritesLine line so old new end → (so ≡ ended.CannotRead → ⊥) →
+    end ≡ ended.CannotRead → ⊥
 line_of_none line so old new end (inl told) other is = other (sym told.0 ∙ is)
 line_of_none line so old new end (inr (inl cannot)) other is = let bad : ended.CannotWrite ≡ ended.CannotRead = sym cannot.0 ∙ is in cc
 line_of_none line so old new end (inr (inr memory)) other is = let bad : ended.NoMemory ≡ ended.CannotRead = sym memory.0 ∙ is in cc
@@ -150,12 +170,14 @@ Stops rest = IsShort RECORD_LENGTH_MAX rest ⊎ (IsMalformed SpellsRecord RECORD
 
 module _ (one : OneForm SpellsRecord RECORD_LENGTH_MAX) (none : NoFrameThere SpellsRecord RECORD_LENGTH_MAX) where
   -- a frame does not begin where none does
-  never_there : (r : Record) (h : List Record) (front rest left : List ℕ) → AreFrames SpellsRecord RECORD_LENGTH_MAX (r ∷ h) front → left ≡ front ++ rest → Stops left → ⊥
+  never_there : (r : Record) (h : List Record) (front rest left : List ℕ) → AreFrames SpellsRecord RECORD_LENGTH_MAX (r ∷ h) front → left ≡ front ++ rest →
+      Stops left → ⊥
   never_there r h front rest left f is stops =
       none r f.0 (f.1 ++ rest) f.3 (subst Stops (is ∙ ap (λ (x : List ℕ). x ++ rest) f.2 ∙ append_assoc f.0 f.1 rest) stops)
 
   -- frames end at one place
-  one_stop : (g h : List Record) (text front left rest : List ℕ) → AreFrames SpellsRecord RECORD_LENGTH_MAX g text → AreFrames SpellsRecord RECORD_LENGTH_MAX h front → text ++ left ≡ front ++ rest
+  one_stop : (g h : List Record) (text front left rest : List ℕ) → AreFrames SpellsRecord RECORD_LENGTH_MAX g text →
+      AreFrames SpellsRecord RECORD_LENGTH_MAX h front → text ++ left ≡ front ++ rest
       → Stops left → Stops rest → left ≡ rest
   one_stop [] [] text front left rest f k e s t = sym (ap (λ (x : List ℕ). x ++ left) f) ∙ e ∙ ap (λ (x : List ℕ). x ++ rest) k
   one_stop [] (r ∷ h) text front left rest f k e s t = absurd (never_there r h front rest left k (sym (ap (λ (x : List ℕ). x ++ left) f) ∙ e) s)
@@ -166,17 +188,20 @@ module _ (one : OneForm SpellsRecord RECORD_LENGTH_MAX) (none : NoFrameThere Spe
       one_stop g h f.1 k.1 left rest f.4 k.4 (one q r f.0 k.0 (f.1 ++ left) (k.1 ++ rest) f.3 k.3 same).2 s t
 
   -- bytes that end within a frame have none at fault
-  never_malformed : (values h : List Record) (text left rest : List ℕ) → AreFrames SpellsRecord RECORD_LENGTH_MAX values text → IsShort RECORD_LENGTH_MAX left → HaveFrames h
+  never_malformed : (values h : List Record) (text left rest : List ℕ) → AreFrames SpellsRecord RECORD_LENGTH_MAX values text → IsShort RECORD_LENGTH_MAX left →
+      HaveFrames h
       → text ++ left ≡ frames_of h ++ rest → IsAtFault rest → ⊥
   never_malformed values h text left rest frames short have begins fault =
       never_both left short (subst IsAtFault (sym (one_stop values h text (frames_of h) left rest frames (framed h have) begins (inl short) (inr fault))) fault)
 
   -- the verdict on the bytes after a header does not rest on its length, where no frame is at fault
-  verdict_after : (one_length other : ℕ) (values : List Record) (text left : List ℕ) (verdict : Verdict) → AreFrames SpellsRecord RECORD_LENGTH_MAX values text → IsShort RECORD_LENGTH_MAX left
+  verdict_after : (one_length other : ℕ) (values : List Record) (text left : List ℕ) (verdict : Verdict) →
+      AreFrames SpellsRecord RECORD_LENGTH_MAX values text → IsShort RECORD_LENGTH_MAX left
       → IsVerdictAfter version_1 one_length (text ++ left) verdict → IsVerdictAfter version_1 other (text ++ left) verdict
   verdict_after one_length other values text left (Legal records rest) frames short v = v
   verdict_after one_length other values text left (Illegal place expected) frames short v = v
-  verdict_after one_length other values text left (Malformed at) frames short v = absurd (never_malformed values v.h text left v.left frames short v.begins.framed v.begins.is v.fault)
+  verdict_after one_length other values text left (Malformed at) frames short v =
+      absurd (never_malformed values v.h text left v.left frames short v.begins.framed v.begins.is v.fault)
 
 -- what is read of the two headers
 old_headed : (input body : List ℕ) → HeadersAreRead → input ≡ header_1 ++ body → header input ≡ Headed version_1 HEADER_1_LENGTH
@@ -190,13 +215,15 @@ new_body written body heads is =
     ap (drop HEADER_2_LENGTH) is ∙ ap (λ (n : ℕ). drop n (header_2 version_1 ++ body)) (sym (heads.long version_1)) ∙ drop-append_seam (header_2 version_1) body
 
 -- the verdicts on a trace are those on the bytes after its header
-of_body : (bytes body : List ℕ) (long : ℕ) (verdict : Verdict) → header bytes ≡ Headed version_1 long → drop long bytes ≡ body → IsVerdict bytes verdict ↔ IsVerdictAfter version_1 long body verdict
+of_body : (bytes body : List ℕ) (long : ℕ) (verdict : Verdict) → header bytes ≡ Headed version_1 long → drop long bytes ≡ body →
+    IsVerdict bytes verdict ↔ IsVerdictAfter version_1 long body verdict
 of_body bytes body long verdict headed is = (
   λ v. subst (λ (x : List ℕ). IsVerdictAfter version_1 long x verdict) is (subst (λ (h : Header). IsVerdictBy h bytes verdict) headed v),
   λ v. subst (λ (h : Header). IsVerdictBy h bytes verdict) (sym headed) (subst (λ (x : List ℕ). IsVerdictAfter version_1 long x verdict) (sym is) v),
 )
 
-rewritten_keeps : (input written : List ℕ) (records rest : ℕ) (verdict : Verdict) → HeadersAreRead → OneForm SpellsRecord RECORD_LENGTH_MAX → NoFrameThere SpellsRecord RECORD_LENGTH_MAX → IsRewritten input written records rest
+rewritten_keeps : (input written : List ℕ) (records rest : ℕ) (verdict : Verdict) → HeadersAreRead → OneForm SpellsRecord RECORD_LENGTH_MAX →
+    NoFrameThere SpellsRecord RECORD_LENGTH_MAX → IsRewritten input written records rest
     → IsVerdict input verdict ↔ IsVerdict written verdict
 rewritten_keeps input written records rest verdict heads one none m =
     let body : List ℕ = m.text ++ m.left in

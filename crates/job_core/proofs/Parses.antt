@@ -97,7 +97,12 @@ pub refused_race : (words : List Text) (m inner : ArgMatches) (fault : JobFault)
     → RefusesRace (first_value (found_of inner)) fault → Deserves words fault
 refused_race words m inner (Usage e) parse named rows (inl h) = refused words m inner (codes "outcomes") (Usage e) parse named rows h
 refused_race words m inner (Usage e) parse named rows (inr h) =
-    inr (inr (inl (parse.parsed, of_words (λ n given. (n ≡ Some (codes "outcomes")) × AsksActsAlone given) words m inner (codes "outcomes") parse named rows (refl, h.0), h.1)))
+    inr (inr (inl (
+      parse.parsed,
+      of_words (λ n given. (n ≡ Some (codes "outcomes")) × AsksActsAlone given) words m inner (codes "outcomes") parse named rows
+          (refl, h.0),
+      h.1,
+    )))
 refused_race words m inner (Shown e) parse named rows h = absurd h
 refused_race words m inner NoMemory parse named rows h = tt
 
@@ -106,7 +111,12 @@ pub refused_show : (words : List Text) (m inner : ArgMatches) (fault : JobFault)
     → subcommand_name_of m ≡ Some (codes "show") → option_map (λ p. p.1) (subcommand_rows_of m) ≡ Some (rows_of (found_of inner))
     → RefusesForms (first_value (found_of inner)) fault → Deserves words fault
 refused_show words m inner (Usage e) parse named rows h =
-    inr (inr (inr (parse.parsed, of_words (λ n given. (n ≡ Some (codes "show")) × (form_given given ≡ None)) words m inner (codes "show") parse named rows (refl, h.0), h.1)))
+    inr (inr (inr (
+      parse.parsed,
+      of_words (λ n given. (n ≡ Some (codes "show")) × (form_given given ≡ None)) words m inner (codes "show") parse named rows
+          (refl, h.0),
+      h.1,
+    )))
 refused_show words m inner (Shown e) parse named rows h = absurd h
 refused_show words m inner NoMemory parse named rows h = tt
 
@@ -167,8 +177,13 @@ added_fill : Each (with_index 1 (filled help_rule) ∷ with_index 1 (filled vers
 added_fill = ((λ again values rows e f. f), ((λ again values rows e f. f), tt))
 
 serve_fills : Each serve_shape.rules
-serve_fills =
-    (required_fills (codes "socket"), (required_fills (codes "sessions"), (required_fills (codes "records"), (required_fills (codes "trace"), (option_fills (codes "pipe-capacity"), added_fill)))))
+serve_fills = (
+  required_fills (codes "socket"),
+  (
+    required_fills (codes "sessions"),
+    (required_fills (codes "records"), (required_fills (codes "trace"), (option_fills (codes "pipe-capacity"), added_fill))),
+  ),
+)
 
 audit_fills : Each audit_shape.rules
 audit_fills = (flag_fills (codes "complete"), (file_fills, added_fill))
@@ -246,7 +261,8 @@ differ a b i m n at_a at_b apart e = apart (sym at_a ∙ ap (λ (t : Text). slic
 
 -- the names of the subcommands
 abbrev IsName : Text → Type 0
-IsName name = (name ≡ codes "replay") ⊎ ((name ≡ codes "serve") ⊎ ((name ≡ codes "audit") ⊎ ((name ≡ codes "show") ⊎ ((name ≡ codes "migrate") ⊎ (name ≡ codes "outcomes")))))
+IsName name = (name ≡ codes "replay") ⊎ ((name ≡ codes "serve") ⊎
+    ((name ≡ codes "audit") ⊎ ((name ≡ codes "show") ⊎ ((name ≡ codes "migrate") ⊎ (name ≡ codes "outcomes")))))
 
 -- what is required of the subcommand of this name is given
 record Has (name : Text) (given : Given) : Type 0 where
@@ -316,7 +332,8 @@ met a b c d e f =
 entered_fits : (stop : Option (Text × List Text)) → entered_fault whole stop ≡ [] → is_some (entered whole stop) ≡ true → Fits (entered whole stop)
 entered_fits None e some = cc
 entered_fits (Some p) e some =
-    go (answers_to p.0 (label_of replay_shape)) (answers_to p.0 (label_of serve_shape)) (answers_to p.0 (label_of audit_shape)) (answers_to p.0 (label_of show_shape)) (answers_to p.0 (label_of migrate_shape)) (answers_to p.0 (label_of outcomes_shape)) e some
+    go (answers_to p.0 (label_of replay_shape)) (answers_to p.0 (label_of serve_shape)) (answers_to p.0 (label_of audit_shape))
+    (answers_to p.0 (label_of show_shape)) (answers_to p.0 (label_of migrate_shape)) (answers_to p.0 (label_of outcomes_shape)) e some
   where
     go : (a b c d m o : Bool) → option_map_or (λ s. level_fault s [] nothing_held p.1 false []) (met a b c d m o) [] ≡ []
         → is_some (option_map (λ s. rows_at s p.1) (met a b c d m o)) ≡ true → Fits (option_map (λ s. rows_at s p.1) (met a b c d m o))
@@ -364,7 +381,8 @@ named words m parse = go (subcommand_name_of m) (found_at words m parse)
     go (Some name) h = h.0
 
 -- it is none of them, so there is no such name
-pub none_named : (name : Option Text) → IsNamed name → (name ≡ Some (codes "replay") → ⊥) → (name ≡ Some (codes "serve") → ⊥) → (name ≡ Some (codes "audit") → ⊥)
+pub none_named : (name : Option Text) → IsNamed name → (name ≡ Some (codes "replay") → ⊥) → (name ≡ Some (codes "serve") → ⊥) →
+    (name ≡ Some (codes "audit") → ⊥)
     → (name ≡ Some (codes "show") → ⊥) → (name ≡ Some (codes "migrate") → ⊥) → (name ≡ Some (codes "outcomes") → ⊥) → ⊥
 none_named None h replay serve audit show migrate outcomes = h
 none_named (Some name) (inl e) replay serve audit show migrate outcomes = replay (ap Some e)
@@ -413,7 +431,8 @@ abbrev with_rules : App → List Rule → App
 with_rules app [] = app
 with_rules app (r ∷ rules) = with_rules (with_rule app r) rules
 
-pub all_added_app : (args : List Arg) (rules : List Rule) (old new : Command) (app : App) → HaveRules args rules → AddsInTurn AddsArg old args new → app_of old ≡ app
+pub all_added_app : (args : List Arg) (rules : List Rule) (old new : Command) (app : App) → HaveRules args rules → AddsInTurn AddsArg old args new →
+    app_of old ≡ app
     → app_of new ≡ with_rules app rules
 all_added_app [] [] old new app have same e = ap app_of (sym same) ∙ e
 all_added_app [] (r ∷ rules) old new app have same e = absurd have
@@ -421,7 +440,8 @@ all_added_app (a ∷ args) [] old new app have added e = absurd have
 all_added_app (a ∷ args) (r ∷ rules) old new app have added e =
     all_added_app args rules added.0 new (with_rule app r) have.2 added.2 (added_app old added.0 a app r added.1 have.1 e have.0)
 
-pub all_added_local : (args : List Arg) (rules : List Rule) (old new : Command) → HaveRules args rules → AddsInTurn AddsArg old args new → (fields_of old).has_globals ≡ false
+pub all_added_local : (args : List Arg) (rules : List Rule) (old new : Command) → HaveRules args rules → AddsInTurn AddsArg old args new →
+    (fields_of old).has_globals ≡ false
     → (fields_of new).has_globals ≡ false
 all_added_local [] [] old new have same e = ap (λ (c : Command). (fields_of c).has_globals) (sym same) ∙ e
 all_added_local [] (r ∷ rules) old new have same e = absurd have
@@ -431,7 +451,8 @@ all_added_local (a ∷ args) (r ∷ rules) old new have added e =
 
 -- ---- a command with one subcommand more
 
-subcommand_app : (old sub new : Command) (app below : App) → AddsSubcommand old sub new → (fields_of sub).has_globals ≡ false → app_of old ≡ app → app_of sub ≡ below
+subcommand_app : (old sub new : Command) (app below : App) → AddsSubcommand old sub new → (fields_of sub).has_globals ≡ false → app_of old ≡ app →
+    app_of sub ≡ below
     → app_of new ≡ with_subcommand app below.top
 subcommand_app old sub new app below added local e f = added.shape local ∙ ap₂ with_subcommand e (ap (λ (a : App). a.top) f)
 
@@ -445,7 +466,8 @@ abbrev with_subcommands : App → List App → App
 with_subcommands app [] = app
 with_subcommands app (a ∷ apps) = with_subcommands (with_subcommand app a.top) apps
 
-pub all_subcommands_app : (commands : List Command) (apps : List App) (old new : Command) (app : App) → HaveApps commands apps → AddsInTurn AddsSubcommand old commands new → app_of old ≡ app
+pub all_subcommands_app : (commands : List Command) (apps : List App) (old new : Command) (app : App) → HaveApps commands apps →
+    AddsInTurn AddsSubcommand old commands new → app_of old ≡ app
     → app_of new ≡ with_subcommands app apps
 all_subcommands_app [] [] old new app have same e = ap app_of (sym same) ∙ e
 all_subcommands_app [] (a ∷ apps) old new app have same e = absurd have
@@ -453,7 +475,8 @@ all_subcommands_app (c ∷ commands) [] old new app have added e = absurd have
 all_subcommands_app (c ∷ commands) (a ∷ apps) old new app have added e =
     all_subcommands_app commands apps added.0 new (with_subcommand app a.top) have.2 added.2 (subcommand_app old c added.0 app a added.1 have.1 e have.0)
 
-pub all_subcommands_local : (commands : List Command) (apps : List App) (old new : Command) → HaveApps commands apps → AddsInTurn AddsSubcommand old commands new → (fields_of old).has_globals ≡ false
+pub all_subcommands_local : (commands : List Command) (apps : List App) (old new : Command) → HaveApps commands apps →
+    AddsInTurn AddsSubcommand old commands new → (fields_of old).has_globals ≡ false
     → (fields_of new).has_globals ≡ false
 all_subcommands_local [] [] old new have same e = ap (λ (c : Command). (fields_of c).has_globals) (sym same) ∙ e
 all_subcommands_local [] (a ∷ apps) old new have same e = absurd have
@@ -470,7 +493,8 @@ have_one_more [] (b ∷ apps) c a have is local = absurd have
 have_one_more (d ∷ commands) [] c a have is local = absurd have
 have_one_more (d ∷ commands) (b ∷ apps) c a have is local = (have.0, have.1, have_one_more commands apps c a have.2 is local)
 
-pub have_made : (made : Result Command AllocError) (old new : List Command) (apps : List App) (a : App) → IsOkAnd made (λ c. new ≡ old ++ c ∷ []) → IfOk made (λ c. app_of c ≡ a)
+pub have_made : (made : Result Command AllocError) (old new : List Command) (apps : List App) (a : App) → IsOkAnd made (λ c. new ≡ old ++ c ∷ []) →
+    IfOk made (λ c. app_of c ≡ a)
     → IfOk made (λ c. (fields_of c).has_globals ≡ false) → HaveApps old apps → HaveApps new (apps ++ a ∷ [])
 have_made (Ok c) old new apps a pushed is local have = subst (λ l. HaveApps l (apps ++ a ∷ [])) (sym pushed) (have_one_more old apps c a have is local)
 have_made (Err e) old new apps a pushed is local have = absurd pushed

@@ -7,11 +7,13 @@ use Rattle.job_core.specs.declared.job_end.JobEnd.{JobEnd}
 use Rattle.job_core.specs.declared.job_end.JobEnd.TheVariants as ended
 
 -- the reader is read no more
-pub read_no_more : (most : ℕ) (from to : LogState) → to.calls ≤ from.calls + most → to.interruptions ≤ 16 → IsReadNoMore (more_calls most from) to → ReadsFew most from to ended.CannotRead
+pub read_no_more : (most : ℕ) (from to : LogState) → to.calls ≤ from.calls + most → to.interruptions ≤ 16 → IsReadNoMore (more_calls most from) to →
+    ReadsFew most from to ended.CannotRead
 read_no_more most from to few row why = record { few = few; few_interrupted = row; met = inl (refl, why) }
 
 -- no read failed
-pub read_well : (most : ℕ) (from to : LogState) (end : JobEnd) → to.calls ≤ from.calls + most → to.interruptions ≤ 16 → to.failed ≡ from.failed → (end ≡ ended.CannotRead → ⊥) → ReadsFew most from to end
+pub read_well : (most : ℕ) (from to : LogState) (end : JobEnd) → to.calls ≤ from.calls + most → to.interruptions ≤ 16 → to.failed ≡ from.failed →
+    (end ≡ ended.CannotRead → ⊥) → ReadsFew most from to end
 read_well most from to end few row sound other = record { few = few; few_interrupted = row; met = inr (other, sound) }
 
 pub memory_of_none : ended.NoMemory ≡ ended.CannotRead → ⊥

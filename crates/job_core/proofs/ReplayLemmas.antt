@@ -26,11 +26,13 @@ all_read None to bytes consumes end = tt
 all_read (Some known) None bytes consumes end = absurd consumes
 all_read (Some known) (Some left) bytes consumes end = sym (consumes ∙ ap (λ (x : List ℕ). bytes ++ x) end ∙ append-nil bytes)
 
-pub read_of : (how : Spelling) (known : Option (List ℕ)) (text : List ℕ) → IfSome known (λ input. text ≡ input) → IfSome known (λ input. read_in how text ≡ read_in how input)
+pub read_of : (how : Spelling) (known : Option (List ℕ)) (text : List ℕ) → IfSome known (λ input. text ≡ input) →
+    IfSome known (λ input. read_in how text ≡ read_in how input)
 read_of how None text is = tt
 read_of how (Some input) text is = ap (read_in how) is
 
-pub whole_of : (known : Option (List ℕ)) (text : List ℕ) → IfSome known (λ input. text ≡ input) → IfSome known (λ input. length text ≤ SCRIPT_MAX → text ≡ input)
+pub whole_of : (known : Option (List ℕ)) (text : List ℕ) → IfSome known (λ input. text ≡ input) →
+    IfSome known (λ input. length text ≤ SCRIPT_MAX → text ≡ input)
 whole_of None text is = tt
 whole_of (Some input) text is = λ short. is
 
@@ -50,19 +52,22 @@ too_long None text long = tt
 too_long (Some input) text long = λ short. absurd (omega (arith, long, short))
 
 -- a text that was not cut is the input
-pub of_input : (known : Option (List ℕ)) (P : List ℕ → Type 0) (text : List ℕ) → length text ≤ 16777216 → IfSome known (λ input. length text ≤ 16777216 → text ≡ input) → P text
+pub of_input : (known : Option (List ℕ)) (P : List ℕ → Type 0) (text : List ℕ) → length text ≤ 16777216 →
+    IfSome known (λ input. length text ≤ 16777216 → text ≡ input) → P text
     → OfInput known P
 of_input None P text short same holds = (text, tt, holds)
 of_input (Some input) P text short same holds = (text, same short, holds)
 
 -- ---- what was not read
 
-pub unread_ends : (limits : Limits) (how : Spelling) (input : Option (List ℕ)) (old : LoggedWriterState) (most : ℕ) (from to : LogState) (end : JobEnd) → FailsToRead most from to end
+pub unread_ends : (limits : Limits) (how : Spelling) (input : Option (List ℕ)) (old : LoggedWriterState) (most : ℕ) (from to : LogState) (end : JobEnd) →
+    FailsToRead most from to end
     → ReplayEnds limits how input old old end
 unread_ends limits how input old most from to end (inl cannot) = subst (ReplayEnds limits how input old old) (sym cannot.0) refl
 unread_ends limits how input old most from to end (inr memory) = subst (ReplayEnds limits how input old old) (sym memory.0) refl
 
-pub unread_reads : (most : ℕ) (from to : LogState) (end : JobEnd) → to.calls ≤ from.calls + most → to.interruptions ≤ 16 → FailsToRead most from to end → ReadsFew most from to end
+pub unread_reads : (most : ℕ) (from to : LogState) (end : JobEnd) → to.calls ≤ from.calls + most → to.interruptions ≤ 16 → FailsToRead most from to end →
+    ReadsFew most from to end
 unread_reads most from to end few row (inl cannot) = record { few = few; few_interrupted = row; met = inl cannot }
 unread_reads most from to end few row (inr memory) =
     record { few = few; few_interrupted = row; met = inr (λ e. (let bad : ended.NoMemory ≡ ended.CannotRead = sym memory.0 ∙ e in cc), memory.1) }

@@ -100,7 +100,8 @@ module _ (c : List Rule) (again : Bool) (h : Each c) where
   settled_filled : (x : Held) → settle_fault c again x ≡ [] → Filled x.rows → Filled (settled c x).rows
   settled_filled x e f = settled_at x.pending x.rows e f
 
-  reacted_filled : (a : Rule) → Fills a → (values : List Text) (x : Held) → react_fault c again a values x ≡ [] → Filled x.rows → Filled (reacted c a values x).rows
+  reacted_filled : (a : Rule) → Fills a → (values : List Text) (x : Held) → react_fault c again a values x ≡ [] → Filled x.rows →
+      Filled (reacted c a values x).rows
   reacted_filled a i values x e f =
       let b = neither (settle_fault c again x) _ e in
       i again values (settled c x).rows b.1 (settled_filled x b.0 f)

@@ -73,7 +73,8 @@ runs_one_more read rest last first run new before lines more act so_far is_next 
       let then_on = next.runs now.book now.seats_are now.fits in
       record { book = then_on.book; seats_are = then_on.seats_are; fits = then_on.fits; tells = then_on.goes_on b seats so_far.acts so_far.told now.tells };
   limits_are = next.limits_are ∙ so_far.limits_are;
-  lines_are = next.lines_are ∙ ap (λ l. l ++ told_line next.told) so_far.lines_are ∙ append_assoc before (told_lines so_far.told) (told_line next.told) ∙ ap (λ l. before ++ l) (sym (lines_next so_far.told next.told));
+  lines_are = next.lines_are ∙ ap (λ l. l ++ told_line next.told) so_far.lines_are ∙ append_assoc before (told_lines so_far.told) (told_line next.told) ∙
+      ap (λ l. before ++ l) (sym (lines_next so_far.told next.told));
 }
 
 -- a fault of the rest is one of all
@@ -84,13 +85,15 @@ fails_so_far read rest first run before lines (faults.BadLine line column expect
 fails_so_far read rest first run before lines faults.TooLong so_far fails = so_far.is_read ∙ ap (followed so_far.acts) fails
 
 -- no act was read, so none is left
-pub nothing_left : (read rest : Result (List ScriptAct) ScriptFault) (next : Option ScriptAct) → ((act : ScriptAct) → next ≡ Some act → ⊥) → NextGives read rest (Ok next) → read ≡ Ok []
+pub nothing_left : (read rest : Result (List ScriptAct) ScriptFault) (next : Option ScriptAct) → ((act : ScriptAct) → next ≡ Some act → ⊥) →
+    NextGives read rest (Ok next) → read ≡ Ok []
 nothing_left read rest None none gives = gives.0
 nothing_left read rest (Some act) none gives = absurd (none act refl)
 
 -- at the end all acts were run, and the lines with that of the totals are their output
 pub run_ends : (read : Result (List ScriptAct) ScriptFault) (first run : RunState) (before lines output : List ℕ) (sums : Sums)
-    → RunsOn read (Ok []) first run before lines → before ≡ [] → IsCounted run sums → output ≡ lines ++ totals_line sums.records sums.bytes_in sums.bytes_out → Gathers read first output
+    → RunsOn read (Ok []) first run before lines → before ≡ [] → IsCounted run sums → output ≡ lines ++ totals_line sums.records sums.bytes_in sums.bytes_out →
+    Gathers read first output
 run_ends read first run before lines output sums so_far is_before counted is = record {
   acts = so_far.acts;
   is_read = so_far.is_read ∙ ap (λ l. Ok l) (append-nil so_far.acts);
@@ -148,7 +151,8 @@ NotTooLong (Err (faults.BadLine line column expected)) = Unit {0}
 NotTooLong (Err faults.TooLong) = ⊥
 NotTooLong (Err faults.NoMemory) = Unit {0}
 
-short_if_read : (text : List ℕ) (read : Result (List ScriptAct) ScriptFault) → NotTooLong (if nat_lt SCRIPT_MAX (length text) then Err faults.TooLong else read) → length text ≤ SCRIPT_MAX
+short_if_read : (text : List ℕ) (read : Result (List ScriptAct) ScriptFault) →
+    NotTooLong (if nat_lt SCRIPT_MAX (length text) then Err faults.TooLong else read) → length text ≤ SCRIPT_MAX
 short_if_read text read fine = elim (cases_lt 16777216 (length text)) [
   | inl long ↦ absurd (rw (lt-ltb 16777216 (length text) long) at fine)
   | inr short ↦ short
@@ -170,7 +174,8 @@ fine_by how text fault is fine = short_in how text (subst NotTooLong (sym is) fi
 
 -- an input that is read with a fault spells no acts
 refused : (how : Spelling) (input : Option (List ℕ)) (fault : ScriptFault) (text : List ℕ) (end : JobEnd)
-    → IsReadAs → IfSome input (λ known. read_in how text ≡ read_in how known) → read_in how text ≡ Err fault → IfSome input (λ known. end ≡ end_in how known fault)
+    → IsReadAs → IfSome input (λ known. read_in how text ≡ read_in how known) → read_in how text ≡ Err fault →
+    IfSome input (λ known. end ≡ end_in how known fault)
     → IfSome input (Refuses how end)
 refused how None fault text end law same fails told = tt
 refused how (Some known) fault text end law same fails told =
@@ -183,12 +188,14 @@ refused how (Some known) fault text end law same fails told =
     }
 
 -- what is told of the text is told of the input, where it was not cut
-told_of : (how : Spelling) (input : Option (List ℕ)) (fault : ScriptFault) (text : List ℕ) → (length text ≤ SCRIPT_MAX → IfSome input (λ known. text ≡ known)) → length text ≤ SCRIPT_MAX
+told_of : (how : Spelling) (input : Option (List ℕ)) (fault : ScriptFault) (text : List ℕ) → (length text ≤ SCRIPT_MAX → IfSome input (λ known. text ≡ known)) →
+    length text ≤ SCRIPT_MAX
     → IfSome input (λ known. end_in how text fault ≡ end_in how known fault)
 told_of how None fault text same short = tt
 told_of how (Some known) fault text same short = ap (λ (t : List ℕ). end_in how t fault) (same short)
 
-whole_if : (input : Option (List ℕ)) (text : List ℕ) → IfSome input (λ known. length text ≤ SCRIPT_MAX → text ≡ known) → length text ≤ SCRIPT_MAX → IfSome input (λ known. text ≡ known)
+whole_if : (input : Option (List ℕ)) (text : List ℕ) → IfSome input (λ known. length text ≤ SCRIPT_MAX → text ≡ known) → length text ≤ SCRIPT_MAX →
+    IfSome input (λ known. text ≡ known)
 whole_if None text same short = tt
 whole_if (Some known) text same short = same short
 
@@ -201,20 +208,23 @@ of_byte : (P : JobEnd → Type 0) (how : Spelling) (byte line column : ℕ) (exp
     → P (ended.NeedsText line column) → P (ended.BadString line column) → P (ended.BadLine line column expected) → P (end_at how byte line column expected)
 of_byte P spelling.Plain byte line column expected text string bad =
     either P (byte == hash || opens_string byte expected) (ended.NeedsText line column) (ended.BadLine line column expected) text bad
-of_byte P spelling.Text byte line column expected text string bad = either P (opens_string byte expected) (ended.BadString line column) (ended.BadLine line column expected) string bad
+of_byte P spelling.Text byte line column expected text string bad = either P (opens_string byte expected) (ended.BadString line column)
+    (ended.BadLine line column expected) string bad
 
 of_line : (P : JobEnd → Type 0) (how : Spelling) (text : List ℕ) (line column : ℕ) (expected : Expected)
     → P (ended.CarriageReturn line column) → P (ended.NeedsText line column) → P (ended.BadString line column) → P (ended.BadLine line column expected)
     → P (end_in_line how text line column expected)
 of_line P how text line column expected returns needs string bad =
     let byte = byte_at text line column in
-    either P (ends_in_return text line) (ended.CarriageReturn line column) (end_at how byte line column expected) returns (of_byte P how byte line column expected needs string bad)
+    either P (ends_in_return text line) (ended.CarriageReturn line column) (end_at how byte line column expected) returns
+    (of_byte P how byte line column expected needs string bad)
 
 -- the end of a line that has no place: it is told of the line
 line_ends : (limits : Limits) (how : Spelling) (input : Option (List ℕ)) (old : LoggedWriterState) (text : List ℕ) (line column : ℕ) (expected : Expected)
     → IfSome input (Refuses how (end_in_line how text line column expected)) → ReplayEnds limits how input old old (end_in_line how text line column expected)
 line_ends limits how input old text line column expected =
-    of_line (λ (end : JobEnd). IfSome input (Refuses how end) → ReplayEnds limits how input old old end) how text line column expected (λ refuses. (refuses, refl)) (λ refuses. (refuses, refl))
+    of_line (λ (end : JobEnd). IfSome input (Refuses how end) → ReplayEnds limits how input old old end) how text line column expected
+    (λ refuses. (refuses, refl)) (λ refuses. (refuses, refl))
     (λ refuses. (refuses, refl)) (λ refuses. (refuses, refl))
 
 known_refl : (how : Spelling) (input : Option (List ℕ)) → IfSome input (λ known. ended.TooLong ≡ end_in how known faults.TooLong)
@@ -237,7 +247,8 @@ fails_ends limits how input old text end law same whole (faults.BadLine line col
 
 -- the lines of a run were written
 pub done_ends : (limits : Limits) (how : Spelling) (input : Option (List ℕ)) (old new : LoggedWriterState) (text lines : List ℕ)
-    → IsSpelledBy → IfSome input (λ known. length text ≤ SCRIPT_MAX → text ≡ known) → RunsText limits how text lines → Writes old new lines → ReplayEnds limits how input old new ended.Done
+    → IsSpelledBy → IfSome input (λ known. length text ≤ SCRIPT_MAX → text ≡ known) → RunsText limits how text lines → Writes old new lines →
+    ReplayEnds limits how input old new ended.Done
 done_ends limits how input old new text lines law whole (acts, is, output, is_output, lines_are) writes =
     let spells : Spells how acts text = read_spelled how acts text law is in
     let short : length text ≤ SCRIPT_MAX = short_in how text (subst NotTooLong (sym is) tt) in
@@ -245,7 +256,8 @@ done_ends limits how input old new text lines law whole (acts, is, output, is_ou
 
 -- a front of them was
 pub front_ends : (limits : Limits) (how : Spelling) (input : Option (List ℕ)) (old new : LoggedWriterState) (text lines : List ℕ) (end : JobEnd)
-    → IsSpelledBy → IfSome input (λ known. length text ≤ SCRIPT_MAX → text ≡ known) → RunsText limits how text lines → AppendsFront old new lines → end ≡ ended.CannotWrite
+    → IsSpelledBy → IfSome input (λ known. length text ≤ SCRIPT_MAX → text ≡ known) → RunsText limits how text lines → AppendsFront old new lines →
+    end ≡ ended.CannotWrite
     → ReplayEnds limits how input old new end
 front_ends limits how input old new text lines end law whole (acts, is, output, is_output, lines_are) front e =
     let spells : Spells how acts text = read_spelled how acts text law is in
@@ -261,7 +273,8 @@ line_of_none how text line column expected =
 pub fault_of_none : (how : Spelling) (text : List ℕ) (end : JobEnd) → FailsTold how text end → end ≡ ended.CannotRead → ⊥
 fault_of_none how text end (faults.NoMemory, is, fails) e = let bad : ended.NoMemory ≡ ended.CannotRead = sym is ∙ e in cc
 fault_of_none how text end (faults.TooLong, is, fails) e = let bad : ended.TooLong ≡ ended.CannotRead = sym is ∙ e in cc
-fault_of_none how text end (faults.BadLine line column expected, is, fails) e = line_of_none how text line (column_in how text line column) expected (sym is ∙ e)
+fault_of_none how text end (faults.BadLine line column expected, is, fails) e = line_of_none how text line (column_in how text line column) expected
+    (sym is ∙ e)
 
 -- ---- a record was read from the line of the act that it is told of
 

@@ -39,7 +39,8 @@ use Rattle.job_core.specs.declared.shown.Form.{Form}
 lines_on : (s : LinesState) (rs more : List Record) → lines_from s (rs ++ more) ≡ lines_from s rs ++ lines_from (lines_after s rs) more
 lines_on s [] more = refl
 lines_on s (r ∷ rs) more =
-    ap (λ (x : List ℕ). line_from s r ++ x) (lines_on (next_lines s r) rs more) ∙ sym (append_assoc (line_from s r) (lines_from (next_lines s r) rs) (lines_from (lines_after (next_lines s r) rs) more))
+    ap (λ (x : List ℕ). line_from s r ++ x) (lines_on (next_lines s r) rs more) ∙
+    sym (append_assoc (line_from s r) (lines_from (next_lines s r) rs) (lines_from (lines_after (next_lines s r) rs) more))
 
 after_on : (s : LinesState) (rs more : List Record) → lines_after s (rs ++ more) ≡ lines_after (lines_after s rs) more
 after_on s [] more = refl
@@ -63,7 +64,8 @@ few_records (r ∷ records) text f =
     omega (arith, few_records records f.1 f.4, ap length f.2, length-append f.0 f.1, ap length f.3.is, frame_long f.3.payload)
 
 -- a piece completes fewer records than there are bytes
-pub few_added : (old new : DecoderState) (piece : List ℕ) (added : List Record) (told : Progress) → Feeds SpellsRecord RECORD_LENGTH_MAX old new piece added told
+pub few_added : (old new : DecoderState) (piece : List ℕ) (added : List Record) (told : Progress) →
+    Feeds SpellsRecord RECORD_LENGTH_MAX old new piece added told
     → length added ≤ length old.held + length piece
 few_added old new piece added told f = go old.progress f
   where
@@ -92,14 +94,17 @@ unheaded_on bytes more law is = subst (λ (h : Header). GoesOn (length bytes) h 
 
 -- ---- a piece of the bytes after the header
 
-body_gives : (headed : ℕ) (body : List ℕ) (records : List Record) (new : ShownState) (told : Progress) → Gave SpellsRecord RECORD_LENGTH_MAX body records new.decoder told
+body_gives : (headed : ℕ) (body : List ℕ) (records : List Record) (new : ShownState) (told : Progress) →
+    Gave SpellsRecord RECORD_LENGTH_MAX body records new.decoder told
     → BodyGives headed body records new (fault_at told headed)
 body_gives headed body records new progress.More g = g
 body_gives headed body records new (progress.Malformed at) g = (progress.Malformed at, g, refl)
 body_gives headed body records new (progress.TooLong at) g = (progress.TooLong at, g, refl)
 
-pub body_taken : (headed : ℕ) (piece text more : List ℕ) (old new : ShownState) (added : List Record) (told : Progress) (found : Option ℕ) → PiecesGoOn SpellsRecord RECORD_LENGTH_MAX
-    → Feeds SpellsRecord RECORD_LENGTH_MAX old.decoder new.decoder piece added told → more ≡ text ++ lines_from old.lines added → new.lines ≡ lines_after old.lines added
+pub body_taken : (headed : ℕ) (piece text more : List ℕ) (old new : ShownState) (added : List Record) (told : Progress) (found : Option ℕ) →
+    PiecesGoOn SpellsRecord RECORD_LENGTH_MAX
+    → Feeds SpellsRecord RECORD_LENGTH_MAX old.decoder new.decoder piece added told → more ≡ text ++ lines_from old.lines added →
+    new.lines ≡ lines_after old.lines added
     → found ≡ fault_at told headed → TakesBody headed piece old new text more found
 body_taken headed piece text more old new added told found law feeds text_is lines_are is = record {
   added = added;
@@ -146,7 +151,8 @@ body_found bytes body records new (Some at) limits headed whole begins is g =
 
 -- ---- a piece, after a header that is whole
 
-body_piece : (headed : ℕ) (piece text more : List ℕ) (old new : ShownState) (found : Option ℕ) → HeaderGoesOn → old.headed ≡ Some headed → new.headed ≡ old.headed
+body_piece : (headed : ℕ) (piece text more : List ℕ) (old new : ShownState) (found : Option ℕ) → HeaderGoesOn → old.headed ≡ Some headed →
+    new.headed ≡ old.headed
     → TakesBody headed piece old new text more found → TakesPiece piece old new text more found
 body_piece headed piece text more old new found law whole same takes = record {
   added = takes.added;
@@ -160,7 +166,8 @@ body_piece headed piece text more old new found law whole same takes = record {
 }
 
 -- what it gives, unless memory runs out
-pub body_piece_in : {E : Type 0} (result : Result (Option ℕ) E) (headed : ℕ) (piece text more : List ℕ) (old new : ShownState) → HeaderGoesOn → old.headed ≡ Some headed → new.headed ≡ old.headed
+pub body_piece_in : {E : Type 0} (result : Result (Option ℕ) E) (headed : ℕ) (piece text more : List ℕ) (old new : ShownState) → HeaderGoesOn →
+    old.headed ≡ Some headed → new.headed ≡ old.headed
     → IfOk result (λ found. TakesBody headed piece old new text more found) → IfOk result (λ found. TakesPiece piece old new text more found)
 body_piece_in (Ok found) headed piece text more old new law whole same takes = body_piece headed piece text more old new found law whole same takes
 body_piece_in (Err fault) headed piece text more old new law whole same takes = takes
@@ -170,13 +177,15 @@ body_piece_in (Err fault) headed piece text more old new law whole same takes = 
 -- nothing was given of no bytes
 none_given : (decoder : DecoderState) → decoder ≡ fresh_decoder → HasGiven SpellsRecord RECORD_LENGTH_MAX [] [] decoder
 none_given decoder is =
-    subst (λ (d : DecoderState). HasGiven SpellsRecord RECORD_LENGTH_MAX [] [] d) (sym is) (record { text = []; is = refl; frames = refl; short = inl (omega arith); before = refl; goes_on = refl })
+    subst (λ (d : DecoderState). HasGiven SpellsRecord RECORD_LENGTH_MAX [] [] d) (sym is)
+    (record { text = []; is = refl; frames = refl; short = inl (omega arith); before = refl; goes_on = refl })
 
 begun_so : (bytes : List ℕ) (records : List Record) (t : ShownState) → t.headed ≡ None → IsTaken bytes records t → IsBegun bytes records t
 begun_so bytes records t none taken = subst (λ (o : Option ℕ). IsTakenBy o bytes records t) none taken
 
 head_piece : (limits : ToldLimits) (headed : ℕ) (piece rest text more : List ℕ) (old mid new : ShownState) (found : Option ℕ) → old.headed ≡ None
-    → header (old.front ++ piece) ≡ Headed limits headed → rest ≡ drop headed (old.front ++ piece) → mid.decoder ≡ old.decoder → mid.lines ≡ old.lines → new.headed ≡ Some headed
+    → header (old.front ++ piece) ≡ Headed limits headed → rest ≡ drop headed (old.front ++ piece) → mid.decoder ≡ old.decoder → mid.lines ≡ old.lines →
+    new.headed ≡ Some headed
     → TakesBody headed rest mid new text more found → TakesPiece piece old new text more found
 head_piece limits headed piece rest text more old mid new found none begins rest_is decoder lines whole takes = record {
   added = takes.added;
@@ -187,11 +196,14 @@ head_piece limits headed piece rest text more old mid new found none begins rest
       body_found (bytes ++ piece) rest (records ++ takes.added) new found limits headed whole
       (subst (λ (x : List ℕ). header (x ++ piece) ≡ Headed limits headed) begun.front_is begins)
       (ap (λ (x : List ℕ). drop headed (x ++ piece)) (sym begun.front_is) ∙ sym rest_is)
-      (subst (λ (rs : List Record). BodyGives headed rest (rs ++ takes.added) new found) (sym begun.none) (takes.gives [] [] (none_given mid.decoder (decoder ∙ begun.fresh_is))));
+      (subst (λ (rs : List Record). BodyGives headed rest (rs ++ takes.added) new found) (sym begun.none)
+      (takes.gives [] [] (none_given mid.decoder (decoder ∙ begun.fresh_is))));
 }
 
-pub head_piece_in : {E : Type 0} (result : Result (Option ℕ) E) (limits : ToldLimits) (headed : ℕ) (piece rest text more : List ℕ) (old mid new : ShownState) → old.headed ≡ None
-    → header (old.front ++ piece) ≡ Headed limits headed → rest ≡ drop headed (old.front ++ piece) → mid.decoder ≡ old.decoder → mid.lines ≡ old.lines → new.headed ≡ Some headed
+pub head_piece_in : {E : Type 0} (result : Result (Option ℕ) E) (limits : ToldLimits) (headed : ℕ) (piece rest text more : List ℕ) (old mid new : ShownState) →
+    old.headed ≡ None
+    → header (old.front ++ piece) ≡ Headed limits headed → rest ≡ drop headed (old.front ++ piece) → mid.decoder ≡ old.decoder → mid.lines ≡ old.lines →
+    new.headed ≡ Some headed
     → IfOk result (λ found. TakesBody headed rest mid new text more found) → IfOk result (λ found. TakesPiece piece old new text more found)
 head_piece_in (Ok found) limits headed piece rest text more old mid new none begins rest_is decoder lines whole takes =
     head_piece limits headed piece rest text more old mid new found none begins rest_is decoder lines whole takes
@@ -216,7 +228,8 @@ found_begins bytes records t (Some at) (inl wrong) = inl wrong.none
 found_begins bytes records t (Some at) (inr fault) = inr (fault.rest, fault.read)
 
 -- what begins with a header and these frames does so however it goes on
-read_on : (bytes more : List ℕ) (records : List Record) (rest : List ℕ) → HeaderGoesOn → (read : IsRead bytes records rest) → IsRead (bytes ++ more) records (rest ++ more)
+read_on : (bytes more : List ℕ) (records : List Record) (rest : List ℕ) → HeaderGoesOn → (read : IsRead bytes records rest) →
+    IsRead (bytes ++ more) records (rest ++ more)
 read_on bytes more records rest law read =
     let on = headed_on bytes more read.told read.headed law read.begins in
     record {
@@ -233,7 +246,8 @@ begins_on bytes more records law (inl none) = inl none
 begins_on bytes more records law (inr begins) = inr (begins.0 ++ more, read_on bytes more records begins.0 law begins.1)
 
 -- what is at fault stays so, whatever comes after it
-broken_on : (bytes more : List ℕ) (records : List Record) (at : ℕ) → BrokenStays → HeaderGoesOn → BreaksAt bytes records at → BreaksAt (bytes ++ more) records at
+broken_on : (bytes more : List ℕ) (records : List Record) (at : ℕ) → BrokenStays → HeaderGoesOn → BreaksAt bytes records at →
+    BreaksAt (bytes ++ more) records at
 unfolding read_on
 broken_on bytes more records at stays law (inl wrong) = inl (record { lacks = unheaded_on bytes more law wrong.lacks; none = wrong.none; at_is = wrong.at_is })
 broken_on bytes more records at stays law (inr broken) = inr (record {
@@ -243,7 +257,8 @@ broken_on bytes more records at stays law (inr broken) = inr (record {
   at_is = broken.at_is;
 })
 
-front_of_piece : (piece text more : List ℕ) (old new : ShownState) (was is : LoggedWriterState) (found : Option ℕ) → TakesPiece piece old new text more found → text ≡ []
+front_of_piece : (piece text more : List ℕ) (old new : ShownState) (was is : LoggedWriterState) (found : Option ℕ) → TakesPiece piece old new text more found →
+    text ≡ []
     → AppendsFront was is more → WritesPieceFront piece old was is
 front_of_piece piece text more old new was is found takes empty front = record {
   added = takes.added;
@@ -251,7 +266,8 @@ front_of_piece piece text more old new was is found takes empty front = record {
   begins = λ bytes records taken. found_begins (bytes ++ piece) (records ++ takes.added) new found (takes.finds bytes records taken);
 }
 
-pub piece_written : (piece text more : List ℕ) (old new : ShownState) (was is : LoggedWriterState) (found : Option ℕ) → TakesPiece piece old new text more found → text ≡ []
+pub piece_written : (piece text more : List ℕ) (old new : ShownState) (was is : LoggedWriterState) (found : Option ℕ) →
+    TakesPiece piece old new text more found → text ≡ []
     → Writes was is more → WritesPiece piece old new was is found
 piece_written piece text more old new was is found takes empty writes = record {
   added = takes.added;
@@ -260,7 +276,8 @@ piece_written piece text more old new was is found takes empty writes = record {
   finds = takes.finds;
 }
 
-pub front_shown : (piece text more : List ℕ) (old new : ShownState) (was is : LoggedWriterState) (found : Option ℕ) (end : JobEnd) → TakesPiece piece old new text more found → text ≡ []
+pub front_shown : (piece text more : List ℕ) (old new : ShownState) (was is : LoggedWriterState) (found : Option ℕ) (end : JobEnd) →
+    TakesPiece piece old new text more found → text ≡ []
     → AppendsFront was is more → end ≡ ended.CannotWrite → ShowsPiece piece old new was is (Some end)
 front_shown piece text more old new was is found end takes empty front fault =
     subst (λ (e : JobEnd). ShowsPiece piece old new was is (Some e)) (sym fault) (front_of_piece piece text more old new was is found takes empty front)
@@ -289,13 +306,15 @@ of_all (Some known) (Some left) bytes P consumes end holds =
     record { bytes = bytes; is = consumes ∙ ap (λ (x : List ℕ). bytes ++ x) end ∙ append-nil bytes; holds = holds }
 
 -- what stays whatever comes after it is so of all bytes
-pub of_all_on : (from to : Option (List ℕ)) (bytes : List ℕ) (P : List ℕ → Type 0) → Consumes from to bytes → P bytes → ((more : List ℕ) → P (bytes ++ more)) → OfAll from P
+pub of_all_on : (from to : Option (List ℕ)) (bytes : List ℕ) (P : List ℕ → Type 0) → Consumes from to bytes → P bytes → ((more : List ℕ) → P (bytes ++ more)) →
+    OfAll from P
 of_all_on None to bytes P consumes holds on = record { bytes = bytes; is = tt; holds = holds }
 of_all_on (Some known) None bytes P consumes holds on = absurd consumes
 of_all_on (Some known) (Some left) bytes P consumes holds on = record { bytes = bytes ++ left; is = consumes; holds = on left }
 
 -- nothing was read or written
-pub nothing_shown : (form : Form) (input : Option (List ℕ)) (old : LoggedWriterState) → OfFront input (λ bytes. WritesAll form old old (λ records. BeginsWith bytes records))
+pub nothing_shown : (form : Form) (input : Option (List ℕ)) (old : LoggedWriterState) →
+    OfFront input (λ bytes. WritesAll form old old (λ records. BeginsWith bytes records))
 nothing_shown form input old = go input
   where
     none : WritesAll form old old (λ records. BeginsWith [] records)
@@ -322,21 +341,24 @@ none_shown form first old fresh = record {
   writes = wrote_nothing old;
 }
 
-taken_few : (bytes : List ℕ) (records : List Record) (t : ShownState) → IsTaken bytes records t → (length records ≤ length bytes) × (length t.decoder.held ≤ length bytes)
+taken_few : (bytes : List ℕ) (records : List Record) (t : ShownState) → IsTaken bytes records t →
+    (length records ≤ length bytes) × (length t.decoder.held ≤ length bytes)
 taken_few bytes records t taken = go t.headed taken
   where
     go : (o : Option ℕ) → IsTakenBy o bytes records t → (length records ≤ length bytes) × (length t.decoder.held ≤ length bytes)
     go None begun = (omega (arith, ap length begun.none), omega (arith, ap (λ (d : DecoderState). length d.held) begun.fresh_is))
     go (Some headed) way =
         let few = few_records records way.given.text way.given.frames in
-        let long : length (drop headed bytes) ≡ length way.given.text + length t.decoder.held = ap length way.given.is ∙ length-append way.given.text t.decoder.held in
+        let long : length (drop headed bytes) ≡ length way.given.text + length t.decoder.held = ap length way.given.is ∙
+        length-append way.given.text t.decoder.held in
         (omega (arith, few, long, length-drop headed bytes), omega (arith, long, length-drop headed bytes))
 
 few_shown_so : (all place count held piece : ℕ) → all + piece ≤ taken_max → place ≡ 0 + count → count ≤ all → held ≤ all → place + held + piece < 2 ^ 64
 few_shown_so all place count held piece few is records held_few = omega (arith, few, is, records, held_few)
 
 -- there is room for the places of the records that a piece completes
-pub few_shown : (first : ShownState) (was : LoggedWriterState) (t : ShownState) (now : LoggedWriterState) (bytes : List ℕ) (piece : ℕ) → HasShown first was t now bytes → length bytes + piece ≤ taken_max
+pub few_shown : (first : ShownState) (was : LoggedWriterState) (t : ShownState) (now : LoggedWriterState) (bytes : List ℕ) (piece : ℕ) →
+    HasShown first was t now bytes → length bytes + piece ≤ taken_max
     → t.lines.place + length t.decoder.held + piece < 2 ^ 64
 few_shown first was t now bytes piece h few =
     let within = taken_few bytes h.records t h.taken in
@@ -345,18 +367,21 @@ few_shown first was t now bytes piece h few =
     ap (λ (s : LinesState). s.place) h.lines_are ∙ place_after first.lines h.records ∙ ap (λ (n : ℕ). n + length h.records) begun in
     few_shown_so (length bytes) t.lines.place (length h.records) (length t.decoder.held) piece few place within.0 within.1
 
-lines_so : (was now : LoggedWriterState) (first : ShownState) (records : List Record) → first ≡ fresh_shown first.lines.form → Writes was now (lines_from first.lines records)
+lines_so : (was now : LoggedWriterState) (first : ShownState) (records : List Record) → first ≡ fresh_shown first.lines.form →
+    Writes was now (lines_from first.lines records)
     → Writes was now (shown_lines first.lines.form records)
 lines_so was now first records fresh writes = subst (λ (t : LinesState). Writes was now (lines_from t records)) (ap (λ (s : ShownState). s.lines) fresh) writes
 
 -- the lines so far, and those of a piece
-on_writes : (was mid now : LoggedWriterState) (first t : ShownState) (records added : List Record) → t.lines ≡ lines_after first.lines records → Writes was mid (lines_from first.lines records)
+on_writes : (was mid now : LoggedWriterState) (first t : ShownState) (records added : List Record) → t.lines ≡ lines_after first.lines records →
+    Writes was mid (lines_from first.lines records)
     → Writes mid now (lines_from t.lines added) → Writes was now (lines_from first.lines (records ++ added))
 on_writes was mid now first t records added is so_far more =
     subst (Writes was now) (ap (λ (s : LinesState). lines_from first.lines records ++ lines_from s added) is ∙ sym (lines_on first.lines records added))
     (wrote_on was mid now (lines_from first.lines records) (lines_from t.lines added) so_far more)
 
-on_front : (was mid now : LoggedWriterState) (first t : ShownState) (records added : List Record) → t.lines ≡ lines_after first.lines records → Writes was mid (lines_from first.lines records)
+on_front : (was mid now : LoggedWriterState) (first t : ShownState) (records added : List Record) → t.lines ≡ lines_after first.lines records →
+    Writes was mid (lines_from first.lines records)
     → AppendsFront mid now (lines_from t.lines added) → AppendsFront was now (lines_from first.lines (records ++ added))
 on_front was mid now first t records added is so_far more = record {
   front = lines_from first.lines records ++ more.front;
@@ -368,7 +393,8 @@ on_front was mid now first t records added is so_far more = record {
   few = omega (arith, so_far.well.few, more.few, length-append (lines_from first.lines records) more.front);
 }
 
-pub shown_more : (first old new : ShownState) (was mid now : LoggedWriterState) (bytes piece : List ℕ) → HasShown first was old mid bytes → WritesPiece piece old new mid now None → HasShown first was new now (bytes ++ piece)
+pub shown_more : (first old new : ShownState) (was mid now : LoggedWriterState) (bytes piece : List ℕ) → HasShown first was old mid bytes →
+    WritesPiece piece old new mid now None → HasShown first was new now (bytes ++ piece)
 shown_more first old new was mid now bytes piece h w = record {
   records = h.records ++ w.added;
   fresh_first = h.fresh_first;
@@ -377,11 +403,18 @@ shown_more first old new was mid now bytes piece h w = record {
   writes = on_writes was mid now first old h.records w.added h.lines_are h.writes w.writes;
 }
 
-so_far_shown : (first t : ShownState) (was now : LoggedWriterState) (bytes : List ℕ) → HasShown first was t now bytes → WritesAll first.lines.form was now (λ records. BeginsWith bytes records)
-so_far_shown first t was now bytes h = record { records = h.records; holds = taken_begins bytes h.records t h.taken; writes = lines_so was now first h.records h.fresh_first h.writes }
+so_far_shown : (first t : ShownState) (was now : LoggedWriterState) (bytes : List ℕ) → HasShown first was t now bytes →
+    WritesAll first.lines.form was now (λ records. BeginsWith bytes records)
+so_far_shown first t was now bytes h = record {
+  records = h.records;
+  holds = taken_begins bytes h.records t h.taken;
+  writes =
+      lines_so was now first h.records h.fresh_first h.writes;
+}
 
 -- what came of a piece after which no more are shown
-pub shown_no_more : (first old new : ShownState) (was mid now : LoggedWriterState) (bytes piece : List ℕ) (end : JobEnd) → HeaderGoesOn → HasShown first was old mid bytes → ShowsPiece piece old new mid now (Some end)
+pub shown_no_more : (first old new : ShownState) (was mid now : LoggedWriterState) (bytes piece : List ℕ) (end : JobEnd) → HeaderGoesOn →
+    HasShown first was old mid bytes → ShowsPiece piece old new mid now (Some end)
     → HasStopped first was now (bytes ++ piece) end
 shown_no_more first old new was mid now bytes piece (ended.Malformed at) law h w = record {
   records = h.records ++ w.added;
@@ -404,13 +437,15 @@ shown_no_more first old new was mid now bytes piece other law h w = absurd w
 -- ---- the whole job
 
 -- no more was read, and the pieces before were shown
-pub cannot_read : (form : Form) (first t : ShownState) (from to : Option (List ℕ)) (was now : LoggedWriterState) (bytes : List ℕ) → first ≡ fresh_shown form → Consumes from to bytes → HasShown first was t now bytes
+pub cannot_read : (form : Form) (first t : ShownState) (from to : Option (List ℕ)) (was now : LoggedWriterState) (bytes : List ℕ) → first ≡ fresh_shown form →
+    Consumes from to bytes → HasShown first was t now bytes
     → ShowEnds form from was now ended.CannotRead
 cannot_read form first t from to was now bytes fresh consumes h =
     subst (λ (f : Form). ShowEnds f from was now ended.CannotRead) (form_of_fresh form first fresh)
     (of_front from to bytes (λ bytes. WritesAll first.lines.form was now (λ records. BeginsWith bytes records)) consumes (so_far_shown first t was now bytes h))
 
-told_by : (form : Form) (first : ShownState) (from to : Option (List ℕ)) (was now : LoggedWriterState) (bytes : List ℕ) (end : JobEnd) → BrokenStays → HeaderGoesOn → first.lines.form ≡ form → Consumes from to bytes
+told_by : (form : Form) (first : ShownState) (from to : Option (List ℕ)) (was now : LoggedWriterState) (bytes : List ℕ) (end : JobEnd) → BrokenStays →
+    HeaderGoesOn → first.lines.form ≡ form → Consumes from to bytes
     → HasStopped first was now bytes end → ShowEnds form from was now end
 told_by form first from to was now bytes (ended.Malformed at) stays law same consumes h =
     subst (λ (f : Form). ShowEnds f from was now (ended.Malformed at)) same
@@ -424,15 +459,19 @@ told_by form first from to was now bytes ended.NoMemory stays law same consumes 
     (of_front from to bytes (λ bytes. WritesAll first.lines.form was now (λ records. BeginsWith bytes records)) consumes h)
 told_by form first from to was now bytes other stays law same consumes h = absurd h
 
-pub told_so : (form : Form) (first : ShownState) (from to : Option (List ℕ)) (was now : LoggedWriterState) (bytes : List ℕ) (end : JobEnd) → BrokenStays → HeaderGoesOn → first ≡ fresh_shown form → Consumes from to bytes
+pub told_so : (form : Form) (first : ShownState) (from to : Option (List ℕ)) (was now : LoggedWriterState) (bytes : List ℕ) (end : JobEnd) → BrokenStays →
+    HeaderGoesOn → first ≡ fresh_shown form → Consumes from to bytes
     → HasStopped first was now bytes end → ShowEnds form from was now end
-told_so form first from to was now bytes end stays law fresh consumes h = told_by form first from to was now bytes end stays law (form_of_fresh form first fresh) consumes h
+told_so form first from to was now bytes end stays law fresh consumes h = told_by form first from to was now bytes end stays law
+    (form_of_fresh form first fresh) consumes h
 
 -- what is told of a piece is not of the reader
-pub told_of_none : (first : ShownState) (was now : LoggedWriterState) (bytes : List ℕ) (end : JobEnd) → HasStopped first was now bytes end → end ≡ ended.CannotRead → ⊥
+pub told_of_none : (first : ShownState) (was now : LoggedWriterState) (bytes : List ℕ) (end : JobEnd) → HasStopped first was now bytes end →
+    end ≡ ended.CannotRead → ⊥
 told_of_none first was now bytes end h is = subst (HasStopped first was now bytes) is h
 
-end_so : (form : Form) (from : Option (List ℕ)) (was now : LoggedWriterState) (left : ℕ) → OfAll from (λ bytes. WritesAll form was now (λ records. IsLeft bytes records left)) → ShowEnds form from was now (end_with left)
+end_so : (form : Form) (from : Option (List ℕ)) (was now : LoggedWriterState) (left : ℕ) →
+    OfAll from (λ bytes. WritesAll form was now (λ records. IsLeft bytes records left)) → ShowEnds form from was now (end_with left)
 end_so form from was now left all = elim (cases_lt 0 left) [
   | inl some ↦ rw (lt-ltb 0 left some) (some, all)
   | inr none ↦
@@ -448,12 +487,14 @@ end_of_none left is = go (nat_lt 0 left) is
     go false e = cc
 
 -- all bytes were shown, and what is left over is told
-pub all_shown : (form : Form) (first t : ShownState) (from to : Option (List ℕ)) (was now : LoggedWriterState) (bytes : List ℕ) (left : ℕ) (end : JobEnd) → first ≡ fresh_shown form → Consumes from to bytes → IsAtEnd to
+pub all_shown : (form : Form) (first t : ShownState) (from to : Option (List ℕ)) (was now : LoggedWriterState) (bytes : List ℕ) (left : ℕ) (end : JobEnd) →
+    first ≡ fresh_shown form → Consumes from to bytes → IsAtEnd to
     → HasShown first was t now bytes → left ≡ left_over t → end ≡ end_with left → ShowEnds form from was now end
 all_shown form first t from to was now bytes left end fresh consumes at_end h left_is is =
     subst (ShowEnds form from was now) (sym (is ∙ ap end_with left_is))
     (subst (λ (f : Form). ShowEnds f from was now (end_with (left_over t))) (form_of_fresh form first fresh)
-    (end_so first.lines.form from was now (left_over t) (of_all from to bytes (λ bytes. WritesAll first.lines.form was now (λ records. IsLeft bytes records (left_over t))) consumes at_end (record {
+    (end_so first.lines.form from was now (left_over t)
+    (of_all from to bytes (λ bytes. WritesAll first.lines.form was now (λ records. IsLeft bytes records (left_over t))) consumes at_end (record {
       records = h.records;
       holds = taken_left bytes h.records t h.taken;
       writes = lines_so was now first h.records h.fresh_first h.writes;

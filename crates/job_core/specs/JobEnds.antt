@@ -50,9 +50,11 @@ ended_text (ended.BadLine line column expected) =
 ended_text (ended.CarriageReturn line column) =
     codes "line " ++ (decimal line ++ (codes " column " ++ (decimal column ++ codes ": not an act\nexpected a line without a carriage return at its end\n")))
 ended_text (ended.NeedsText line column) =
-    codes "line " ++ (decimal line ++ (codes " column " ++ (decimal column ++ codes ": not an act\nexpected an act; comments and strings are read with --text\n")))
+    codes "line " ++ (decimal line ++ (codes " column " ++
+    (decimal column ++ codes ": not an act\nexpected an act; comments and strings are read with --text\n")))
 ended_text (ended.BadString line column) =
-    codes "line " ++ (decimal line ++ (codes " column " ++ (decimal column ++ codes ": not an act\nexpected a string of at most 65700 bytes, as \"hi\\n\": bytes from 32 to 126, \\n, \\t, \\r, \\\" and \\\\, and a quote that ends the word\n")))
+    codes "line " ++ (decimal line ++ (codes " column " ++
+    (decimal column ++ codes ": not an act\nexpected a string of at most 65700 bytes, as \"hi\\n\": bytes from 32 to 126, \\n, \\t, \\r, \\\" and \\\\, and a quote that ends the word\n")))
 ended_text ended.TooLong = codes "script too long\nexpected at most 16777216 bytes\n"
 ended_text ended.CannotRead = codes "cannot read\n"
 ended_text ended.CannotWrite = codes "cannot write\n"
@@ -68,10 +70,12 @@ ended_text (ended.Rest bytes) = codes "rest " ++ (decimal bytes ++ codes "\n")
 ended_text (ended.Malformed at) = codes "malformed " ++ (decimal at ++ codes "\n")
 ended_text (ended.BadRace line why) = codes "line " ++ (decimal line ++ (codes ": " ++ (unfit_text why ++ codes "\n")))
 ended_text (ended.BadAnswer line column) =
-    codes "line " ++ (decimal line ++ (codes " column " ++ (decimal column ++ codes ": not an answer\nexpected ? or an answer, as 5, x6869, ok, error EBADF, waits 0 or -\n")))
+    codes "line " ++ (decimal line ++ (codes " column " ++
+    (decimal column ++ codes ": not an answer\nexpected ? or an answer, as 5, x6869, ok, error EBADF, waits 0 or -\n")))
 ended_text ended.NoRace = codes "no race\nexpected a line race after the acts before it\n"
 ended_text (ended.TooManyStates most) =
-    codes "too many states: more than " ++ (decimal most ++ (codes "\nexpected at most " ++ (decimal most ++ codes " states; --states takes up to 100000000\n")))
+    codes "too many states: more than " ++ (decimal most ++
+    (codes "\nexpected at most " ++ (decimal most ++ codes " states; --states takes up to 100000000\n")))
 ended_text ended.NoneAgrees = []
 ended_text ended.NoSuchOutcome = codes "no such outcome\n"
 ended_text ended.Incomplete = codes "not complete\nexpected house close-run as the last record, and nothing after it\n"

@@ -111,4 +111,5 @@ MigrateEnds input out other = ⊥
 -- where all of a trace was written anew, the verdicts on it are those on what was written
 abbrev pub MigrationsKeepVerdicts : Type 0
 MigrationsKeepVerdicts =
-    (input written : List ℕ) (records rest : ℕ) (verdict : Verdict) → IsMigrated input written records rest → IsVerdict input verdict ↔ IsVerdict written verdict
+    (input written : List ℕ) (records rest : ℕ) (verdict : Verdict) → IsMigrated input written records rest →
+    IsVerdict input verdict ↔ IsVerdict written verdict

@@ -9,10 +9,13 @@ use Rattle.logged_streams.specs.declared.stream_log.Gave.TheVariants as gave
 use Rattle.logged_streams.specs.Streams.{IsWell, LogState, LoggedWriterState, SomeWritten, Writes, WritesFront, noted, one_more}
 
 -- after some bytes, more of the rest were written
-wrote_more : (a b c : Option (List ℕ)) (bytes : List ℕ) (n more : ℕ) → Appends a b (take n bytes) → Appends b c (take more (drop n bytes)) → Appends a c (take (n + more) bytes)
-wrote_more a b c bytes n more so_far next = subst (Appends a c) (sym (take-add n more bytes)) (Appends-trans a b c (take n bytes) (take more (drop n bytes)) so_far next)
+wrote_more : (a b c : Option (List ℕ)) (bytes : List ℕ) (n more : ℕ) → Appends a b (take n bytes) → Appends b c (take more (drop n bytes)) →
+    Appends a c (take (n + more) bytes)
+wrote_more a b c bytes n more so_far next = subst (Appends a c) (sym (take-add n more bytes))
+    (Appends-trans a b c (take n bytes) (take more (drop n bytes)) so_far next)
 
-pub wrote_some : (a b c : Option (List ℕ)) (bytes rest : List ℕ) (n more : ℕ) → WritesFront a b bytes n → rest ≡ drop n bytes → SomeWritten b c rest more → WritesFront a c bytes (n + more)
+pub wrote_some : (a b c : Option (List ℕ)) (bytes rest : List ℕ) (n more : ℕ) → WritesFront a b bytes n → rest ≡ drop n bytes → SomeWritten b c rest more →
+    WritesFront a c bytes (n + more)
 wrote_some a b c bytes rest n more so_far e next = record {
   within =
       let left : length rest ≡ length bytes - n = ap length e ∙ length-drop n bytes in
@@ -37,7 +40,8 @@ noted_calls log gave.Interrupted = refl
 noted_calls log gave.Failed = refl
 
 -- some bytes more were written well
-pub wrote_well : (old mid new : LogState) (written more : ℕ) → IsWell old mid written → new.failed ≡ mid.failed → new.calls ≤ mid.calls + 16 → 0 < more → IsWell old new (written + more)
+pub wrote_well : (old mid new : LogState) (written more : ℕ) → IsWell old mid written → new.failed ≡ mid.failed → new.calls ≤ mid.calls + 16 → 0 < more →
+    IsWell old new (written + more)
 wrote_well old mid new written more h sound few some = record { sound = sound ∙ h.sound; few = omega (arith, h.few, few, some) }
 
 -- ---- what was written well
@@ -56,7 +60,8 @@ wrote_on was now is bytes more h k = record {
 }
 
 -- as many bytes as there are were written
-pub wrote_all : (was is : LoggedWriterState) (bytes : List ℕ) (count : ℕ) → WritesFront was.contents is.contents bytes count → count ≡ length bytes → IsWell was.log is.log count → Writes was is bytes
+pub wrote_all : (was is : LoggedWriterState) (bytes : List ℕ) (count : ℕ) → WritesFront was.contents is.contents bytes count → count ≡ length bytes →
+    IsWell was.log is.log count → Writes was is bytes
 wrote_all was is bytes count w all well = record {
   appends = subst (λ (x : List ℕ). Appends was.contents is.contents x) (take_all count bytes (omega (arith, all))) w.appends;
   well = subst (IsWell was.log is.log) all well;

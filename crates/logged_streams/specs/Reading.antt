@@ -23,22 +23,26 @@ GoesOn Taken Told first was taker out bytes None = Taken first was taker out byt
 GoesOn Taken Told first was taker out bytes (Some told) = Told first was taker out bytes told
 
 -- a piece more, after whatever bytes were taken (own)
-abbrev pub TakesPiece : {O T A : Type 0} → (T → O → T → O → List ℕ → Type 0) → (T → O → T → O → List ℕ → A → Type 0) → List ℕ → T → O → T → O → Option A → Type 0
+abbrev pub TakesPiece : {O T A : Type 0} → (T → O → T → O → List ℕ → Type 0) → (T → O → T → O → List ℕ → A → Type 0) → List ℕ → T → O → T → O → Option A →
+    Type 0
 TakesPiece {O} {T} Taken Told piece old out new after found =
-    (first : T) (was : O) (input : List ℕ) → Taken first was old out input → length input + length piece ≤ taken_max → GoesOn Taken Told first was new after (input ++ piece) found
+    (first : T) (was : O) (input : List ℕ) → Taken first was old out input → length input + length piece ≤ taken_max →
+    GoesOn Taken Told first was new after (input ++ piece) found
 
 -- so many calls more, up to the greatest number that can be told (own)
 abbrev pub more_calls : ℕ → LogState → ℕ
 more_calls more log = min (log.calls + more) (2 ^ 64 - 1)
 
 -- why no more is read, and what was taken by then (own)
-abbrev pub EndsBy : {O T A : Type 0} → (T → O → T → O → List ℕ → Type 0) → (T → O → T → O → List ℕ → A → Type 0) → ℕ → LoggedReaderState → LoggedReaderState → T → O → T → O → List ℕ → ReadEnd A → Type 0
+abbrev pub EndsBy : {O T A : Type 0} → (T → O → T → O → List ℕ → Type 0) → (T → O → T → O → List ℕ → A → Type 0) → ℕ → LoggedReaderState → LoggedReaderState →
+    T → O → T → O → List ℕ → ReadEnd A → Type 0
 EndsBy Taken Told most from to first was taker out input end.AtEnd = IsAtEnd to.remaining × (to.log.failed ≡ from.log.failed) × Taken first was taker out input
 EndsBy Taken Told most from to first was taker out input end.CannotRead = IsReadNoMore (more_calls most from.log) to.log × Taken first was taker out input
 EndsBy Taken Told most from to first was taker out input (end.Told told) = (to.log.failed ≡ from.log.failed) × Told first was taker out input told
 
 -- all that was read, at most so often, and what was taken of it (own)
-pub record Reads {O T A : Type 0} (Taken : T → O → T → O → List ℕ → Type 0) (Told : T → O → T → O → List ℕ → A → Type 0) (most : ℕ) (from to : LoggedReaderState) (first : T) (was : O) (taker : T) (out : O) (found : ReadEnd A) : Type 0 where
+pub record Reads {O T A : Type 0} (Taken : T → O → T → O → List ℕ → Type 0) (Told : T → O → T → O → List ℕ → A → Type 0) (most : ℕ)
+    (from to : LoggedReaderState) (first : T) (was : O) (taker : T) (out : O) (found : ReadEnd A) : Type 0 where
   pub input : List ℕ
   pub consumes : Consumes from.remaining to.remaining input
   pub few : length input ≤ taken_max

@@ -23,9 +23,23 @@ one_more calls = min (calls + 1) (2 ^ 64 - 1)
 
 -- the log after one call more (own)
 abbrev pub noted : LogState → Gave → LogState
-noted log (gave.Bytes count) = record { calls = one_more log.calls; moved = one_more log.moved; interruptions = 0; failed = log.failed; refusals = log.refusals }
+noted log (gave.Bytes count) = record {
+  calls = one_more log.calls;
+  moved = one_more log.moved;
+  interruptions = 0;
+  failed = log.failed;
+  refusals =
+      log.refusals;
+}
 noted log gave.Nothing = record { calls = one_more log.calls; moved = log.moved; interruptions = 0; failed = log.failed; refusals = log.refusals }
-noted log gave.Interrupted = record { calls = one_more log.calls; moved = log.moved; interruptions = log.interruptions + 1; failed = log.failed; refusals = log.refusals }
+noted log gave.Interrupted = record {
+  calls = one_more log.calls;
+  moved = log.moved;
+  interruptions = log.interruptions + 1;
+  failed = log.failed;
+  refusals =
+      log.refusals;
+}
 noted log gave.Failed = record { calls = one_more log.calls; moved = log.moved; interruptions = 0; failed = true; refusals = log.refusals }
 
 -- a stream that failed, or was interrupted sixteen times in a row (own)
@@ -39,7 +53,14 @@ pub record IsWell (old new : LogState) (count : ℕ) : Type 0 where
 
 -- the log after leave to write was asked for once more, and given or not (own)
 abbrev pub asked : LogState → Bool → LogState
-asked log is_given = record { calls = log.calls; moved = log.moved; interruptions = log.interruptions; failed = log.failed; refusals = if is_given then 0 else log.refusals + 1 }
+asked log is_given = record {
+  calls = log.calls;
+  moved = log.moved;
+  interruptions = log.interruptions;
+  failed = log.failed;
+  refusals =
+      if is_given then 0 else log.refusals + 1;
+}
 
 -- a writer to which no more is written: it is broken, or leave to write was refused as often as it is asked for (own)
 abbrev pub IsWrittenNoMore : LogState → Type 0

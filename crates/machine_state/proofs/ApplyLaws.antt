@@ -28,28 +28,35 @@ same_fifo : (old new : Option Fifo) → new ≡ old → SameFifo old new
 same_fifo old new same = record { pipe = ap pipe_of_fifo same; opened = λ m. ap (openings m) same }
 
 -- a regular file that is written is no FIFO
-written : (files : List (Option File)) (k : ℕ) (bytes : List ℕ) (n : ℕ) → is_regular_file (slot files k) ≡ true → fifo_at (slot (set files k (Some (file.Regular bytes))) n) ≡ fifo_at (slot files n)
+written : (files : List (Option File)) (k : ℕ) (bytes : List ℕ) (n : ℕ) → is_regular_file (slot files k) ≡ true →
+    fifo_at (slot (set files k (Some (file.Regular bytes))) n) ≡ fifo_at (slot files n)
 written files k bytes n regular = by_slot (slot files k) refl regular
   where
-    by_slot : (x : Option File) → slot files k ≡ x → is_regular_file x ≡ true → fifo_at (slot (set files k (Some (file.Regular bytes))) n) ≡ fifo_at (slot files n)
+    by_slot : (x : Option File) → slot files k ≡ x → is_regular_file x ≡ true → fifo_at (slot (set files k (Some (file.Regular bytes))) n) ≡ fifo_at
+        (slot files n)
     by_slot None is h = cc
     by_slot (Some (file.Fifo fifo)) is h = cc
     by_slot (Some (file.Regular old)) is h = elim (same_or_not k n) [
       | inl same ↦
           let was : fifo_at (slot files n) ≡ None = ap (λ k. fifo_at (slot files k)) (sym same.0) ∙ ap fifo_at is in
-          ap fifo_at (slot_set files k (file.Regular old) (Some (file.Regular bytes)) n is ∙ ap (λ b. cond b (Some (file.Regular bytes)) (slot files n)) same.1) ∙ sym was
-      | inr other ↦ ap fifo_at (slot_set files k (file.Regular old) (Some (file.Regular bytes)) n is ∙ ap (λ b. cond b (Some (file.Regular bytes)) (slot files n)) other.1)
+          ap fifo_at (slot_set files k (file.Regular old) (Some (file.Regular bytes)) n is ∙
+          ap (λ b. cond b (Some (file.Regular bytes)) (slot files n)) same.1) ∙ sym was
+      | inr other ↦ ap fifo_at (slot_set files k (file.Regular old) (Some (file.Regular bytes)) n is ∙
+          ap (λ b. cond b (Some (file.Regular bytes)) (slot files n)) other.1)
     ]
 
 -- a new file is one of which no end was opened
-made : (files : List (Option File)) (new : File) (n : ℕ) → SameFifo None (fifo_at (Some new)) → SameFifo (fifo_at (slot files n)) (fifo_at (slot (files ++ Some new ∷ []) n))
+made : (files : List (Option File)) (new : File) (n : ℕ) → SameFifo None (fifo_at (Some new)) →
+    SameFifo (fifo_at (slot files n)) (fifo_at (slot (files ++ Some new ∷ []) n))
 made files new n fresh = elim (same_or_not (length files) n) [
   | inl same ↦
       let was : fifo_at (slot files n) ≡ None = ap fifo_at (get_or-eq_default files None (omega (arith, same.0))) in
-      let now : fifo_at (slot (files ++ Some new ∷ []) n) ≡ fifo_at (Some new) = ap fifo_at (slot_added files (Some new) n ∙ ap (λ b. cond b (Some new) (slot files n)) same.1) in
+      let now : fifo_at (slot (files ++ Some new ∷ []) n) ≡ fifo_at (Some new) =
+      ap fifo_at (slot_added files (Some new) n ∙ ap (λ b. cond b (Some new) (slot files n)) same.1) in
       rw (was, now) fresh
   | inr other ↦
-      same_fifo (fifo_at (slot files n)) (fifo_at (slot (files ++ Some new ∷ []) n)) (ap fifo_at (slot_added files (Some new) n ∙ ap (λ b. cond b (Some new) (slot files n)) other.1))
+      same_fifo (fifo_at (slot files n)) (fifo_at (slot (files ++ Some new ∷ []) n))
+      (ap fifo_at (slot_added files (Some new) n ∙ ap (λ b. cond b (Some new) (slot files n)) other.1))
 ]
 
 fresh_regular : SameFifo None (fifo_at (Some (file.Regular [])))
@@ -63,9 +70,12 @@ fresh_fifo = record { pipe = refl; opened = never }
     never mode.Write = refl
     never mode.ReadWrite = refl
 
-pub fifos_same : (w : World) (bytes : List ℕ) (e : FileEdit) → FilesFit w e → (n : ℕ) → SameFifo (fifo_at (slot w.files n)) (fifo_at (slot (with_files w bytes e).files n))
-fifos_same w bytes (on_files.Bytes f start count) fits n = same_fifo (fifo_at (slot w.files n)) (fifo_at (slot (with_files w bytes (on_files.Bytes f start count)).files n)) (written w.files f _ n fits)
-fifos_same w bytes (on_files.Resize f len) fits n = same_fifo (fifo_at (slot w.files n)) (fifo_at (slot (with_files w bytes (on_files.Resize f len)).files n)) (written w.files f _ n fits)
+pub fifos_same : (w : World) (bytes : List ℕ) (e : FileEdit) → FilesFit w e → (n : ℕ) →
+    SameFifo (fifo_at (slot w.files n)) (fifo_at (slot (with_files w bytes e).files n))
+fifos_same w bytes (on_files.Bytes f start count) fits n =
+    same_fifo (fifo_at (slot w.files n)) (fifo_at (slot (with_files w bytes (on_files.Bytes f start count)).files n)) (written w.files f _ n fits)
+fifos_same w bytes (on_files.Resize f len) fits n = same_fifo (fifo_at (slot w.files n)) (fifo_at (slot (with_files w bytes (on_files.Resize f len)).files n))
+    (written w.files f _ n fits)
 fifos_same w bytes (on_files.MakeFile name) fits n = made w.files (file.Regular []) n fresh_regular
 fifos_same w bytes (on_files.MakeFifo name) fits n = made w.files (file.Fifo unopened) n fresh_fifo
 fifos_same w bytes other fits n = same_fifo (fifo_at (slot w.files n)) (fifo_at (slot w.files n)) refl
@@ -103,7 +113,8 @@ room_after m n (on_table.OpenEnd process fd f description) descriptions pipes sa
 room_after m n other descriptions pipes same room = tt
 
 -- an end is one of its FIFO where the FIFOs are the same
-pub theirs_after : (w v : World) → v.descriptions ≡ w.descriptions → ((f : ℕ) → SameFifo (fifo_at (slot w.files f)) (fifo_at (slot v.files f))) → EndsAreTheirs w → EndsAreTheirs v
+pub theirs_after : (w v : World) → v.descriptions ≡ w.descriptions → ((f : ℕ) → SameFifo (fifo_at (slot w.files f)) (fifo_at (slot v.files f))) →
+    EndsAreTheirs w → EndsAreTheirs v
 theirs_after w v same fifos theirs n d is g x p stands has on =
     let knows = known_in (slot w.files g) (sym (fifos g).pipe ∙ (ap (λ y. pipe_of_fifo (fifo_at y)) stands ∙ has)) in
     theirs n d (ap (λ ds. slot ds n) (sym same) ∙ is) g knows.0 p knows.1 knows.2 on

@@ -23,7 +23,12 @@ pub refs_entry : (ps : List (Option Process)) (p fd : ℕ) (entry : Option ℕ) 
 refs_entry [] p fd entry d within = absurd (omega arith)
 refs_entry (None ∷ ps) zero fd entry d within = absurd (omega arith)
 refs_entry (Some process ∷ ps) zero fd entry d within =
-    omega (arith, sum_by-set (λ x. one (refers d x)) process.table fd entry None within, sum_by-cons (refs_of d) (Some process) ps, sum_by-cons (refs_of d) (Some (with_entry fd entry process)) ps)
+    omega (
+      arith,
+      sum_by-set (λ x. one (refers d x)) process.table fd entry None within,
+      sum_by-cons (refs_of d) (Some process) ps,
+      sum_by-cons (refs_of d) (Some (with_entry fd entry process)) ps,
+    )
 refs_entry (x ∷ ps) (suc p) fd entry d within =
     omega (arith, refs_entry ps p fd entry d within, sum_by-cons (refs_of d) x ps, sum_by-cons (refs_of d) x (edited p (with_entry fd entry) ps))
 
@@ -32,7 +37,8 @@ pub refs_added : (ps : List (Option Process)) (process : Process) (d : ℕ) → 
 refs_added ps process d = omega (arith, sum_by-append (refs_of d) ps (Some process ∷ []))
 
 -- what a process does without its descriptors is no matter to the references
-pub refs_same : (ps : List (Option Process)) (p : ℕ) (f : Process → Process) (d : ℕ) → ((x : Process) → (f x).table ≡ x.table) → refs (edited p f ps) d ≡ refs ps d
+pub refs_same : (ps : List (Option Process)) (p : ℕ) (f : Process → Process) (d : ℕ) → ((x : Process) → (f x).table ≡ x.table) →
+    refs (edited p f ps) d ≡ refs ps d
 refs_same [] p f d same = refl
 refs_same (None ∷ ps) zero f d same = refl
 refs_same (Some x ∷ ps) zero f d same =
@@ -64,12 +70,25 @@ refs_most (None ∷ ps) d tables =
 refs_most (Some process ∷ ps) d tables =
     let rest = refs_most ps d (λ n x is. tables (suc n) x is) in
     let all : length process.table ≡ 32 = tables 0 process refl in
-    omega (arith, rest, all, count_most (refers d) process.table, sum_by-cons (refs_of d) (Some process) ps, sum_by-cons (λ (x : Option Process). one (is_some x)) (Some process) ps)
+    omega (
+      arith,
+      rest,
+      all,
+      count_most (refers d) process.table,
+      sum_by-cons (refs_of d) (Some process) ps,
+      sum_by-cons (λ (x : Option Process). one (is_some x)) (Some process) ps,
+    )
 
 -- no file has more holders than there are live descriptions
 pub holders_most : (ds : List (Option Description)) (f : ℕ) → holders ds f ≤ live ds
 holders_most [] f = omega arith
-holders_most (x ∷ ds) f = omega (arith, holders_most ds f, sum_by-cons (λ x. one (holds f x)) x ds, sum_by-cons (λ (x : Option Description). one (is_some x)) x ds, here x)
+holders_most (x ∷ ds) f = omega (
+  arith,
+  holders_most ds f,
+  sum_by-cons (λ x. one (holds f x)) x ds,
+  sum_by-cons (λ (x : Option Description). one (is_some x)) x ds,
+  here x,
+)
   where
     at_most_one : (b : Bool) → one b ≤ 1
     at_most_one true = omega arith
@@ -89,7 +108,8 @@ module _ (t : Option Description → Bool) (none : t None ≡ false) where
   nothing : one (t None) ≡ 0
   nothing = ap one none
 
-  pub count_gone : (ds : List (Option Description)) (n : ℕ) (d : Description) → slot ds n ≡ Some d → count_by t (set ds n None) + one (t (Some d)) ≡ count_by t ds
+  pub count_gone : (ds : List (Option Description)) (n : ℕ) (d : Description) → slot ds n ≡ Some d → count_by t (set ds n None) + one (t (Some d))
+      ≡ count_by t ds
   count_gone ds n d is =
       let was : one (t (slot ds n)) ≡ one (t (Some d)) = ap (λ x. one (t x)) is in
       omega (arith, nothing, was, sum_by-set (λ x. one (t x)) ds n None None (there_below ds n (ap is_some is)))
@@ -97,13 +117,19 @@ module _ (t : Option Description → Bool) (none : t None ≡ false) where
   pub count_added : (ds : List (Option Description)) (d : Description) → count_by t (ds ++ Some d ∷ []) ≡ count_by t ds + one (t (Some d))
   count_added ds d = omega (arith, sum_by-append (λ x. one (t x)) ds (Some d ∷ []))
 
-  pub count_edited : (ds : List (Option Description)) (n : ℕ) (f : Description → Description) → ((d : Description) → t (Some (f d)) ≡ t (Some d)) → count_by t (edited n f ds) ≡ count_by t ds
+  pub count_edited : (ds : List (Option Description)) (n : ℕ) (f : Description → Description) → ((d : Description) → t (Some (f d)) ≡ t (Some d)) →
+      count_by t (edited n f ds) ≡ count_by t ds
   count_edited [] n f same = refl
   count_edited (None ∷ ds) zero f same = refl
   count_edited (Some d ∷ ds) zero f same =
       let as_was : one (t (Some (f d))) ≡ one (t (Some d)) = ap one (same d) in
       omega (arith, as_was, sum_by-cons (λ x. one (t x)) (Some d) ds, sum_by-cons (λ x. one (t x)) (Some (f d)) ds)
-  count_edited (x ∷ ds) (suc n) f same = omega (arith, count_edited ds n f same, sum_by-cons (λ x. one (t x)) x ds, sum_by-cons (λ x. one (t x)) x (edited n f ds))
+  count_edited (x ∷ ds) (suc n) f same = omega (
+    arith,
+    count_edited ds n f same,
+    sum_by-cons (λ x. one (t x)) x ds,
+    sum_by-cons (λ x. one (t x)) x (edited n f ds),
+  )
 
   pub count_live : (ds : List (Option Description)) → count_by t ds ≤ live ds
   count_live [] = omega arith
@@ -130,13 +156,15 @@ holders_gone ds n d f is =
     omega (arith, was, sum_by-set (λ x. one (holds f x)) ds n None None (there_below ds n (ap is_some is)))
 
 -- what a new description adds to the holders of a file
-pub holders_added : (ds : List (Option Description)) (d : Description) (f : ℕ) → holders (ds ++ Some d ∷ []) f ≡ holders ds f + one (refers f (file_of_target d.target))
+pub holders_added : (ds : List (Option Description)) (d : Description) (f : ℕ) → holders (ds ++ Some d ∷ []) f ≡ holders ds f + one
+    (refers f (file_of_target d.target))
 holders_added ds d f =
     let same : one (holds f (Some d)) ≡ one (refers f (file_of_target d.target)) = ap one (sym (refers_target f d.target)) in
     omega (arith, same, sum_by-append (λ x. one (holds f x)) ds (Some d ∷ []))
 
 -- an offset and flags are no matter to the holders of a file
-pub holders_same : (ds : List (Option Description)) (n : ℕ) (edit : Description → Description) → StaysOpen edit → (f : ℕ) → holders (edited n edit ds) f ≡ holders ds f
+pub holders_same : (ds : List (Option Description)) (n : ℕ) (edit : Description → Description) → StaysOpen edit → (f : ℕ) →
+    holders (edited n edit ds) f ≡ holders ds f
 holders_same ds n edit stays f = count_edited (holds f) refl ds n edit (λ d. ap (is_file f) (stays.target d))
 
 -- what a new name adds to the links of a file
@@ -147,7 +175,12 @@ links_added name file f (e ∷ es) new =
     links (by_order o ((name, file) ∷ e ∷ es) ((e.0, file) ∷ es) (e ∷ with_name name file es)) f ≡ links (e ∷ es) f + one (file == f)) [
       | Less ↦ λ _. omega (arith, sum_by-cons (λ x. one (x.1 == f)) (name, file) (e ∷ es))
       | Equal ↦ λ there. cc
-      | Greater ↦ λ after. omega (arith, links_added name file f es after, sum_by-cons (λ x. one (x.1 == f)) e es, sum_by-cons (λ x. one (x.1 == f)) e (with_name name file es))
+      | Greater ↦ λ after. omega (
+        arith,
+        links_added name file f es after,
+        sum_by-cons (λ x. one (x.1 == f)) e es,
+        sum_by-cons (λ x. one (x.1 == f)) e (with_name name file es),
+      )
     ] new
 
 -- a new name makes the names one longer
@@ -183,8 +216,17 @@ live_added {T} xs x = omega (arith, sum_by-append (λ (x : Option T). one (is_so
 pub live_edited : {T : Type 0} (xs : List (Option T)) (n : ℕ) (f : T → T) → live (edited n f xs) ≡ live xs
 live_edited [] n f = refl
 live_edited {T} (None ∷ xs) zero f = refl
-live_edited {T} (Some x ∷ xs) zero f = omega (arith, sum_by-cons (λ (x : Option T). one (is_some x)) (Some x) xs, sum_by-cons (λ (x : Option T). one (is_some x)) (Some (f x)) xs)
-live_edited {T} (x ∷ xs) (suc n) f = omega (arith, live_edited xs n f, sum_by-cons (λ (x : Option T). one (is_some x)) x xs, sum_by-cons (λ (x : Option T). one (is_some x)) x (edited n f xs))
+live_edited {T} (Some x ∷ xs) zero f = omega (
+  arith,
+  sum_by-cons (λ (x : Option T). one (is_some x)) (Some x) xs,
+  sum_by-cons (λ (x : Option T). one (is_some x)) (Some (f x)) xs,
+)
+live_edited {T} (x ∷ xs) (suc n) f = omega (
+  arith,
+  live_edited xs n f,
+  sum_by-cons (λ (x : Option T). one (is_some x)) x xs,
+  sum_by-cons (λ (x : Option T). one (is_some x)) x (edited n f xs),
+)
 
 pub live_without : {T : Type 0} (xs : List (Option T)) (n : ℕ) → live (set xs n None) ≤ live xs
 live_without [] n = omega arith

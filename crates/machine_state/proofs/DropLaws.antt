@@ -42,7 +42,8 @@ use Rattle.machine_state.proofs.CountLaws.{refs_entry, holders_gone, refers_targ
 use Rattle.machine_state.proofs.StoredLaws.{Facts, KnowsOpen, facts_of, settled, consistent_of, knows_gone, knows_edited, same_entry, tables_set, and_true}
 
 -- a file that goes knows no pipe
-knows_less : (xs : Files) (uses : ℕ → ℕ) (entry : Option ℕ) → StaysUsed xs uses entry ⊎ Goes xs uses entry → (ds : List (Option Description)) → KnowsOpen (values_in xs) ds → KnowsOpen (values_in (without_use entry xs)) ds
+knows_less : (xs : Files) (uses : ℕ → ℕ) (entry : Option ℕ) → StaysUsed xs uses entry ⊎ Goes xs uses entry → (ds : List (Option Description)) →
+    KnowsOpen (values_in xs) ds → KnowsOpen (values_in (without_use entry xs)) ds
 knows_less xs uses entry (inl stays) ds knows = rw stays.values knows
 knows_less xs uses entry (inr goes) ds knows = rw goes.values (knows_gone (values_in xs) ds knows goes.number)
 
@@ -52,12 +53,14 @@ swept_knows w v left f p knows = by_slot (is_wanted w.names v.descriptions f) (s
   where
     by_pipe : (pipe : Option ℕ) → open_pipe v.descriptions pipe ≡ Some p → is_open v.descriptions p ≡ true
     by_pipe None h = cc
-    by_pipe (Some q) h = elim (is_open v.descriptions q) as (λ b. is_open v.descriptions q ≡ b → cond b (Some q) None ≡ Some p → is_open v.descriptions p ≡ true) [
-      | true ↦ λ opens same. let here : q ≡ p = cc in ap (is_open v.descriptions) (sym here) ∙ opens
-      | false ↦ λ _ bad. cc
-    ] refl h
+    by_pipe (Some q) h = elim (is_open v.descriptions q) as (λ b. is_open v.descriptions q ≡ b → cond b (Some q) None ≡ Some p →
+        is_open v.descriptions p ≡ true) [
+          | true ↦ λ opens same. let here : q ≡ p = cc in ap (is_open v.descriptions) (sym here) ∙ opens
+          | false ↦ λ _ bad. cc
+        ] refl h
 
-    by_slot : (b : Bool) (x : Option File) → pipe_of_fifo (fifo_at (cond b (without_gone_pipe v.descriptions x) None)) ≡ Some p → is_open v.descriptions p ≡ true
+    by_slot : (b : Bool) (x : Option File) → pipe_of_fifo (fifo_at (cond b (without_gone_pipe v.descriptions x) None)) ≡ Some p →
+        is_open v.descriptions p ≡ true
     by_slot false x h = cc
     by_slot true None h = cc
     by_slot true (Some (file.Regular bytes)) h = cc
@@ -77,12 +80,14 @@ swept_theirs w v left theirs n d is g x p stands has on =
     by_pipe None h = cc
     by_pipe (Some q) h = elim (is_open v.descriptions q) as (λ b. cond b (Some q) None ≡ Some p → Some q ≡ Some p) [ true ↦ λ same. same | false ↦ λ bad. cc ] h
 
-    before : (b : Bool) (y : Option File) → cond b (without_gone_pipe v.descriptions y) None ≡ Some (file.Fifo x) → (z : Fifo) × (y ≡ Some (file.Fifo z)) × (z.pipe ≡ Some p)
+    before : (b : Bool) (y : Option File) → cond b (without_gone_pipe v.descriptions y) None ≡ Some (file.Fifo x) →
+        (z : Fifo) × (y ≡ Some (file.Fifo z)) × (z.pipe ≡ Some p)
     before false y h = cc
     before true None h = cc
     before true (Some (file.Regular bytes)) h = cc
     before true (Some (file.Fifo fifo)) h =
-        let same : pipe_of_fifo (fifo_at (Some (file.Fifo (record fifo { pipe = open_pipe v.descriptions fifo.pipe })))) ≡ x.pipe = ap (λ y. pipe_of_fifo (fifo_at y)) h in
+        let same : pipe_of_fifo (fifo_at (Some (file.Fifo (record fifo { pipe = open_pipe v.descriptions fifo.pipe })))) ≡ x.pipe =
+        ap (λ y. pipe_of_fifo (fifo_at y)) h in
         (fifo, refl, by_pipe fifo.pipe (same ∙ has))
 
 -- what a FIFO forgets
@@ -90,7 +95,8 @@ abbrev forget_file : ℕ → File → File
 forget_file p (file.Regular bytes) = file.Regular bytes
 forget_file p (file.Fifo fifo) = file.Fifo (record fifo { pipe = other_pipe p fifo.pipe })
 
-forget_is : (es : List (Option Description)) (p : ℕ) (x : Option StoredFile) → ((q : ℕ) → known x ≡ Some q → q ≢ p → is_open es q ≡ true) → is_open es p ≡ false →
+forget_is : (es : List (Option Description)) (p : ℕ) (x : Option StoredFile) → ((q : ℕ) → known x ≡ Some q → q ≢ p → is_open es q ≡ true) →
+    is_open es p ≡ false →
     option_map (forget_file p) (file_slot x) ≡ without_gone_pipe es (file_slot x)
 forget_is es p None opens closed = refl
 forget_is es p (Some stored) opens closed = by_body stored.body opens
@@ -102,7 +108,8 @@ forget_is es p (Some stored) opens closed = by_body stored.body opens
       | inr other ↦ let still : is_open es q ≡ true = opens q refl other.0 in rw (other.1, still) refl
     ]
 
-    by_body : (b : FileBody) → ((q : ℕ) → pipe_of_fifo (fifo_at (Some (file_in b))) ≡ Some q → q ≢ p → is_open es q ≡ true) → option_map (forget_file p) (Some (file_in b)) ≡ without_gone_pipe es (Some (file_in b))
+    by_body : (b : FileBody) → ((q : ℕ) → pipe_of_fifo (fifo_at (Some (file_in b))) ≡ Some q → q ≢ p → is_open es q ≡ true) →
+        option_map (forget_file p) (Some (file_in b)) ≡ without_gone_pipe es (Some (file_in b))
     by_body (body.Regular bytes) opens = refl
     by_body (body.Fifo fifo) opens = ap (λ pipe. Some (file.Fifo (record fifo { pipe = pipe }))) (by_pipe fifo.pipe opens)
 
@@ -129,7 +136,8 @@ module _ (s : Stored) (all : IsConsistent s) where
   unlinked name file = record s { files = use_dropped file (unnamed_files file); names = without_name name s.names }
 
   -- a name that is taken away was one of its file
-  pub some_link : (name : List ℕ) (file : ℕ) → ((g : ℕ) → links (without_name name s.names) g + one (file == g) ≡ links s.names g) → 0 < links_at (value_at (slot s.files file))
+  pub some_link : (name : List ℕ) (file : ℕ) → ((g : ℕ) → links (without_name name s.names) g + one (file == g) ≡ links s.names g) →
+      0 < links_at (value_at (slot s.files file))
   some_link name file fewer =
       let once : one (file == file) ≡ 1 = ap one (is_itself file) in
       omega (arith, once, fewer file, all.links file, ap links_at (slot_values s.files file))
@@ -138,25 +146,30 @@ module _ (s : Stored) (all : IsConsistent s) where
     pub consistent : IsConsistent t
     pub world : world_in t ≡ sweep (record (world_in s) { names = without_name name s.names })
 
-  pub after_unlink : (name : List ℕ) (file : ℕ) → ((g : ℕ) → links (without_name name s.names) g + one (file == g) ≡ links s.names g) → NamesRelease → IsUnlinked name (unlinked name file)
+  pub after_unlink : (name : List ℕ) (file : ℕ) → ((g : ℕ) → links (without_name name s.names) g + one (file == g) ≡ links s.names g) → NamesRelease →
+      IsUnlinked name (unlinked name file)
   after_unlink name file fewer release =
       let facts = facts_of s all in
       let names = without_name name s.names in
       let xs = unnamed_files file in
       let uses : ℕ → ℕ = λ g. links names g + holders ds g in
-      let left = loses_use xs (λ g. links s.names g + holders ds g) uses (Some file) (counted_edited s.files (λ g. links s.names g + holders ds g) file unnamed facts.uses) (λ g. omega (arith, fewer g)) in
-      let law = release (world_in s) names file all.settled (λ g apart some. let none : one (file == g) ≡ 0 = ap one (other_number g file apart) in omega (arith, none, some, fewer g)) in
+      let left = loses_use xs (λ g. links s.names g + holders ds g) uses (Some file)
+      (counted_edited s.files (λ g. links s.names g + holders ds g) file unnamed facts.uses) (λ g. omega (arith, fewer g)) in
+      let law = release (world_in s) names file all.settled (λ g apart some. let none : one (file == g) ≡ 0 = ap one (other_number g file apart) in
+      omega (arith, none, some, fewer g)) in
       let same : file_slots (values_in xs) ≡ file_slots (values_in s.files) = files_same s.files file unnamed (λ _. refl) in
       record {
         consistent = consistent_of (unlinked name file) (record {
           references = facts.references;
           uses = left.counted;
           links = tallies_less links_at refl xs uses (λ g. links names g) (Some file) left.either (λ g none. omega (arith, none))
-              (rw (values_edited s.files file unnamed) (tallies_fewer links_at refl (values_in s.files) (λ g. links s.names g) (λ g. links names g) file unnamed true facts.links (λ x. refl)
+              (rw (values_edited s.files file unnamed) (tallies_fewer links_at refl (values_in s.files) (λ g. links s.names g)
+              (λ g. links names g) file unnamed true facts.links (λ x. refl)
               (λ g. ap (λ b. links names g + one b) (and_true (file == g)) ∙ fewer g)));
           pipes = facts.pipes;
           fifos = knows_less xs uses (Some file) left.either ds
-              (rw (values_edited s.files file unnamed) (knows_edited (values_in s.files) ds facts.fifos file unnamed (λ x p is h. facts.fifos file p (ap known is ∙ h))));
+              (rw (values_edited s.files file unnamed) (knows_edited (values_in s.files) ds facts.fifos file unnamed
+              (λ x p is h. facts.fifos file p (ap known is ∙ h))));
           spare = facts.spare;
           tables = facts.tables;
           few_processes = facts.few_processes;
@@ -176,10 +189,12 @@ module _ (s : Stored) (all : IsConsistent s) where
   tallies_forgot None t = all.links
   tallies_forgot (Some pipe) (target.Regular f) = all.links
   tallies_forgot (Some pipe) (target.Pipe p) = all.links
-  tallies_forgot (Some pipe) (target.Fifo f p) = rw (values_edited s.files f (forgetful p)) (tallies_kept links_at refl (values_in s.files) (λ f. links s.names f) f (forgetful p) (λ x. refl) all.links)
+  tallies_forgot (Some pipe) (target.Fifo f p) = rw (values_edited s.files f (forgetful p))
+      (tallies_kept links_at refl (values_in s.files) (λ f. links s.names f) f (forgetful p) (λ x. refl) all.links)
 
   -- the FIFO of a pipe that goes forgets it
-  fifos_forgot : (es : List (Option Description)) (t : Target) (m : Mode) → Takes ds es (pipe_at t) m → file_slots (values_in (forgot (pipe_gone (Gone t m) s.pipes) t s.files)) ≡ fifos_after es (world_in s).files t
+  fifos_forgot : (es : List (Option Description)) (t : Target) (m : Mode) → Takes ds es (pipe_at t) m →
+      file_slots (values_in (forgot (pipe_gone (Gone t m) s.pipes) t s.files)) ≡ fifos_after es (world_in s).files t
   fifos_forgot es (target.Regular f) m less = refl
   fifos_forgot es (target.Pipe p) m less = either (pipe_gone (Gone (target.Pipe p) m) s.pipes)
     where
@@ -194,7 +209,9 @@ module _ (s : Stored) (all : IsConsistent s) where
       let others : (q : ℕ) → known x ≡ Some q → q ≢ p → is_open es q ≡ true = λ q knows apart.
       let none : one (p == q) ≡ 0 = ap one (other_number q p apart) in
       open_of es q (omega (arith, none, less.ends q, facts.fifos f q knows)) in
-      elim (loses_end s.pipes ds s.capacity facts.pipes es (Some p) m less).either as (λ _. file_slots (values_in (forgot (pipe_gone (Gone (target.Fifo f p) m) s.pipes) (target.Fifo f p) s.files)) ≡ set fs f (without_gone_pipe es (slot fs f))) [
+      elim (loses_end s.pipes ds s.capacity facts.pipes es (Some p) m less).either as
+      (λ _. file_slots (values_in (forgot (pipe_gone (Gone (target.Fifo f p) m) s.pipes) (target.Fifo f p) s.files)) ≡ set fs f
+      (without_gone_pipe es (slot fs f))) [
         | inl stays ↦
             let opens : (q : ℕ) → known x ≡ Some q → is_open es q ≡ true = λ q knows. elim (same_or_not q p) [
               | inl same ↦ open_of es q (let P : ℕ → Type 0 = λ k. 0 < open_ends es k in subst P (sym same.0) (stays.used p refl))
@@ -205,7 +222,8 @@ module _ (s : Stored) (all : IsConsistent s) where
         | inr goes ↦
             let here : goes.number ≡ p = sym (same_entry s all p goes.number goes.entry_is) in
             let closed : is_open es p ≡ false = closed_of es p (ap (open_ends es) (sym here) ∙ goes.none) in
-            let forgets : option_map (forget_file p) (slot fs f) ≡ without_gone_pipe es (slot fs f) = ap (option_map (forget_file p)) stands ∙ (forget_is es p x others closed ∙ ap (without_gone_pipe es) (sym stands)) in
+            let forgets : option_map (forget_file p) (slot fs f) ≡ without_gone_pipe es (slot fs f) = ap (option_map (forget_file p)) stands ∙
+            (forget_is es p x others closed ∙ ap (without_gone_pipe es) (sym stands)) in
             rw goes.lost (files_edited s.files f (forgetful p) (forget_file p) (λ x. same x.body) ∙ ap (λ y. set fs f y) forgets)
       ]
     where
@@ -214,7 +232,8 @@ module _ (s : Stored) (all : IsConsistent s) where
       same (body.Fifo fifo) = refl
 
   -- the file of a description that went has lost a use
-  files_released : (es : List (Option Description)) (fs : Files) (t : Target) → StaysUsed fs (λ f. links s.names f + holders es f) (file_of_target t) ⊎ Goes fs (λ f. links s.names f + holders es f) (file_of_target t) →
+  files_released : (es : List (Option Description)) (fs : Files) (t : Target) → StaysUsed fs (λ f. links s.names f + holders es f) (file_of_target t) ⊎ Goes fs
+      (λ f. links s.names f + holders es f) (file_of_target t) →
       files_after s.names es (file_slots (values_in fs)) t ≡ file_slots (values_in (without_use (file_of_target t) fs))
   files_released es fs (target.Regular f) either = released_as fs (λ f. links s.names f + holders es f) f either
   files_released es fs (target.Pipe p) either = refl
@@ -299,7 +318,8 @@ module _ (s : Stored) (all : IsConsistent s) where
           let less = takes ds last.number d is in
           let gone = pipe_gone (Gone d.target d.mode) s.pipes in
           let fs = forgot gone d.target s.files in
-          let left = loses_use fs (λ f. links s.names f + holders ds f) (λ f. links s.names f + holders es f) (file_of_target d.target) (counted_forgot gone d.target)
+          let left = loses_use fs (λ f. links s.names f + holders ds f) (λ f. links s.names f + holders es f) (file_of_target d.target)
+          (counted_forgot gone d.target)
           (λ f. omega (arith, holders_gone ds last.number d f is)) in
           let unreferred : is_referred qs last.number ≡ false = rw last.none refl in
           let others : StaysBut last.number s.processes qs = λ e apart some.
@@ -307,18 +327,27 @@ module _ (s : Stored) (all : IsConsistent s) where
           omega (arith, change e, none, some) in
           let v = with_descriptor (world_in s) p fd entry in
           let law : sweep v ≡ released v last.number d.target = releases (world_in s) qs last.number d all.settled is (theirs last.number d is) others in
-          let pipes_are : pipes_after es (world_in s).pipes d.target ≡ pipe_slots (values_in t.pipes) = sym (pipes_released s.pipes ds s.capacity facts.pipes es d.target d.mode less) in
+          let pipes_are : pipes_after es (world_in s).pipes d.target ≡ pipe_slots (values_in t.pipes) =
+          sym (pipes_released s.pipes ds s.capacity facts.pipes es d.target d.mode less) in
           let fifos_are : fifos_after es (world_in s).files d.target ≡ file_slots (values_in fs) = sym (fifos_forgot es d.target d.mode less) in
-          let result : released v last.number d.target ≡ world_in t = rw (unreferred, pipes_are, fifos_are, files_released es fs d.target left.either, values) refl in
+          let result : released v last.number d.target ≡ world_in t = rw (
+            unreferred,
+            pipes_are,
+            fifos_are,
+            files_released es fs d.target left.either,
+            values,
+          ) refl in
           let same : sweep v ≡ world_in t = law ∙ result in
           let P : World → Type 0 = λ u. (f k : ℕ) → pipe_of_fifo (fifo_at (slot u.files f)) ≡ Some k → is_open u.descriptions k ≡ true in
           let opens : P (world_in t) = subst P same (swept_knows v (sweep v) (leaves v)) in
           let now : Facts t = record {
             references = loses.counted;
             uses = rw values left.counted;
-            links = tallies_less links_at refl fs (λ f. links s.names f + holders es f) (λ f. links s.names f) (file_of_target d.target) left.either (λ f none. omega (arith, none)) (tallies_forgot gone d.target);
+            links = tallies_less links_at refl fs (λ f. links s.names f + holders es f) (λ f. links s.names f) (file_of_target d.target) left.either
+                (λ f none. omega (arith, none)) (tallies_forgot gone d.target);
             pipes = rw values (pipes_closed s.pipes ds s.capacity facts.pipes es (pipe_at d.target) d.mode less);
-            fifos = λ f k knows. some_of (values_in t.descriptions) k (opens f k (ap (λ x. pipe_of_fifo (fifo_at x)) (slot_files (values_in t.files) f) ∙ knows));
+            fifos = λ f k knows. some_of (values_in t.descriptions) k (opens f k (ap (λ x. pipe_of_fifo (fifo_at x)) (slot_files (values_in t.files) f) ∙
+                knows));
             spare = facts.spare;
             tables = tables_set s all p fd entry;
             few_processes = omega (arith, facts.few_processes, live_edited s.processes p (with_entry fd entry));

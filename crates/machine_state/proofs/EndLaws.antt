@@ -36,17 +36,20 @@ pipe_refers p (target.Fifo f q) = refl
 
 -- each end can read or write
 module _ (p : ℕ) where
-  of_mode : (b : Bool) (m : Mode) → (one b ≤ one (b && can_read m) + one (b && can_write m)) × (one (b && can_read m) ≤ one b) × (one (b && can_write m) ≤ one b)
+  of_mode : (b : Bool) (m : Mode) → (one b ≤ one (b && can_read m) + one (b && can_write m)) × (one (b && can_read m) ≤ one b) ×
+      (one (b && can_write m) ≤ one b)
   of_mode false m = (omega arith, omega arith, omega arith)
   of_mode true mode.Read = (omega arith, omega arith, omega arith)
   of_mode true mode.Write = (omega arith, omega arith, omega arith)
   of_mode true mode.ReadWrite = (omega arith, omega arith, omega arith)
 
-  at_slot : (x : Option Description) → (one (is_end p x) ≤ one (reads p x) + one (writes p x)) × (one (reads p x) ≤ one (is_end p x)) × (one (writes p x) ≤ one (is_end p x))
+  at_slot : (x : Option Description) → (one (is_end p x) ≤ one (reads p x) + one (writes p x)) × (one (reads p x) ≤ one (is_end p x)) ×
+      (one (writes p x) ≤ one (is_end p x))
   at_slot None = (omega arith, omega arith, omega arith)
   at_slot (Some d) = of_mode (is_pipe p d.target) d.mode
 
-  pub ends_within : (ds : List (Option Description)) → (open_ends ds p ≤ readers ds p + writers ds p) × (readers ds p ≤ open_ends ds p) × (writers ds p ≤ open_ends ds p)
+  pub ends_within : (ds : List (Option Description)) → (open_ends ds p ≤ readers ds p + writers ds p) × (readers ds p ≤ open_ends ds p) ×
+      (writers ds p ≤ open_ends ds p)
   ends_within [] = (omega arith, omega arith, omega arith)
   ends_within (x ∷ ds) =
       let rest = ends_within ds in
@@ -64,7 +67,8 @@ module _ (ds : List (Option Description)) (p : ℕ) where
   some_of opens = omega (arith, ltb-true 0 (readers ds p + writers ds p) opens, (ends_within p ds).1, (ends_within p ds).2)
 
   pub closed_of : open_ends ds p ≡ 0 → is_open ds p ≡ false
-  closed_of nothing = let zero_left : readers ds p + writers ds p ≡ 0 = omega (arith, nothing, (ends_within p ds).1, (ends_within p ds).2) in ap (ltb 0) zero_left
+  closed_of nothing = let zero_left : readers ds p + writers ds p ≡ 0 = omega (arith, nothing, (ends_within p ds).1, (ends_within p ds).2) in
+      ap (ltb 0) zero_left
 
 -- a pipe has the ends that it had, and can hold as many bytes
 pub record KeepsEnds (f : StoredPipe → StoredPipe) : Type 0 where
@@ -127,7 +131,8 @@ writing_without mode.ReadWrite x = refl
 
 module _ (xs : Pipes) (ds : List (Option Description)) (capacity : ℕ) (facts : PipeFacts xs ds capacity) where
   -- the counts of other descriptions are the same
-  pub pipes_as : (es : List (Option Description)) → ((n : ℕ) → open_ends es n ≡ open_ends ds n) → ((n : ℕ) → readers es n ≡ readers ds n) → ((n : ℕ) → writers es n ≡ writers ds n) → PipeFacts xs es capacity
+  pub pipes_as : (es : List (Option Description)) → ((n : ℕ) → open_ends es n ≡ open_ends ds n) → ((n : ℕ) → readers es n ≡ readers ds n) →
+      ((n : ℕ) → writers es n ≡ writers ds n) → PipeFacts xs es capacity
   pipes_as es ends reading writing = record {
     ends = counted_as xs (λ p. open_ends ds p) (λ p. open_ends es p) facts.ends ends;
     readers = λ n. facts.readers n ∙ sym (reading n);
@@ -137,7 +142,8 @@ module _ (xs : Pipes) (ds : List (Option Description)) (capacity : ℕ) (facts :
 
   -- a description has another offset, or other flags
   pub pipes_moved : (n : ℕ) (f : Description → Description) → StaysOpen f → PipeFacts xs (edited n f ds) capacity
-  pipes_moved n f stays = pipes_as (edited n f ds) (λ p. count_edited (is_end p) refl ds n f (λ d. rw (stays.target d) refl)) (λ p. count_edited (reads p) refl ds n f (λ d. rw (stays.target d, stays.mode d) refl))
+  pipes_moved n f stays = pipes_as (edited n f ds) (λ p. count_edited (is_end p) refl ds n f (λ d. rw (stays.target d) refl))
+      (λ p. count_edited (reads p) refl ds n f (λ d. rw (stays.target d, stays.mode d) refl))
       (λ p. count_edited (writes p) refl ds n f (λ d. rw (stays.target d, stays.mode d) refl))
 
   -- a pipe has other bytes
@@ -148,11 +154,13 @@ module _ (xs : Pipes) (ds : List (Option Description)) (capacity : ℕ) (facts :
         ends = counted_edited xs (λ p. open_ends ds p) n f facts.ends;
         readers = rw values (tallies_kept readers_at refl (values_in xs) (λ p. readers ds p) n f same.readers facts.readers);
         writers = rw values (tallies_kept writers_at refl (values_in xs) (λ p. writers ds p) n f same.writers facts.writers);
-        capacities = rw values (each_edited (λ (pipe : StoredPipe). pipe.ring.capacity ≡ capacity) (values_in xs) n f facts.capacities (λ x h. same.capacity x ∙ h));
+        capacities = rw values (each_edited (λ (pipe : StoredPipe). pipe.ring.capacity ≡ capacity) (values_in xs) n f facts.capacities (λ x h. same.capacity x ∙
+            h));
       }
 
   -- a pipe has one end more
-  pub pipes_opened : (es : List (Option Description)) (e : Option ℕ) (m : Mode) → Adds ds es e m → ((n : ℕ) → e ≡ Some n → is_some (slot xs n) ≡ true) → PipeFacts (with_end_at e m xs) es capacity
+  pub pipes_opened : (es : List (Option Description)) (e : Option ℕ) (m : Mode) → Adds ds es e m → ((n : ℕ) → e ≡ Some n → is_some (slot xs n) ≡ true) →
+      PipeFacts (with_end_at e m xs) es capacity
   pipes_opened es None m more there = pipes_as es (λ n. omega (arith, more.ends n)) (λ n. omega (arith, more.readers n)) (λ n. omega (arith, more.writers n))
   pipes_opened es (Some k) m more there =
       let ys : Pipes = edited k (with_value (with_end m)) xs in
@@ -160,24 +168,34 @@ module _ (xs : Pipes) (ds : List (Option Description)) (capacity : ℕ) (facts :
       let stored : is_some (slot xs k) ≡ true = there k refl in
       let stands : is_some (slot (values_in xs) k) ≡ true = there_values xs k ∙ stored in
       record {
-        ends = counted_more ys (λ p. open_ends ds p) (λ p. open_ends es p) (Some k) (counted_edited xs (λ p. open_ends ds p) k (with_end m) facts.ends) (λ n is. there_edited xs k (with_value (with_end m)) n (there n is)) more.ends;
-        readers = rw values (tallies_more readers_at refl (values_in xs) (λ p. readers ds p) (λ p. readers es p) k (with_end m) (can_read m) facts.readers stands (reading_with m) more.readers);
-        writers = rw values (tallies_more writers_at refl (values_in xs) (λ p. writers ds p) (λ p. writers es p) k (with_end m) (can_write m) facts.writers stands (writing_with m) more.writers);
-        capacities = rw values (each_edited (λ (pipe : StoredPipe). pipe.ring.capacity ≡ capacity) (values_in xs) k (with_end m) facts.capacities (λ x h. ap (λ (ring : Ring). ring.capacity) (ring_with m x) ∙ h));
+        ends = counted_more ys (λ p. open_ends ds p) (λ p. open_ends es p) (Some k) (counted_edited xs (λ p. open_ends ds p) k (with_end m) facts.ends)
+            (λ n is. there_edited xs k (with_value (with_end m)) n (there n is)) more.ends;
+        readers = rw values (tallies_more readers_at refl (values_in xs) (λ p. readers ds p) (λ p. readers es p) k (with_end m)
+            (can_read m) facts.readers stands (reading_with m) more.readers);
+        writers = rw values (tallies_more writers_at refl (values_in xs) (λ p. writers ds p) (λ p. writers es p) k (with_end m)
+            (can_write m) facts.writers stands (writing_with m) more.writers);
+        capacities = rw values (each_edited (λ (pipe : StoredPipe). pipe.ring.capacity ≡ capacity) (values_in xs) k (with_end m) facts.capacities
+            (λ x h. ap (λ (ring : Ring). ring.capacity) (ring_with m x) ∙ h));
       }
 
   -- a pipe is added with one end
-  pub pipes_first : (es : List (Option Description)) (m : Mode) (ring : Ring) → Adds ds es (Some (length xs)) m → ring.capacity ≡ capacity → PipeFacts (xs ++ Some (used_once (with_end m (endless ring))) ∷ []) es capacity
+  pub pipes_first : (es : List (Option Description)) (m : Mode) (ring : Ring) → Adds ds es (Some (length xs)) m → ring.capacity ≡ capacity →
+      PipeFacts (xs ++ Some (used_once (with_end m (endless ring))) ∷ []) es capacity
   pipes_first es m ring more right =
       let pipe = with_end m (endless ring) in
       let values = values_added xs pipe in
-      let reads_more : (n : ℕ) → readers es n ≡ readers ds n + one (eqb (length (values_in xs)) n && can_read m) = λ n. rw (length_values xs) (more.readers n) in
-      let writes_more : (n : ℕ) → writers es n ≡ writers ds n + one (eqb (length (values_in xs)) n && can_write m) = λ n. rw (length_values xs) (more.writers n) in
+      let reads_more : (n : ℕ) → readers es n ≡ readers ds n + one (eqb (length (values_in xs)) n && can_read m) =
+      λ n. rw (length_values xs) (more.readers n) in
+      let writes_more : (n : ℕ) → writers es n ≡ writers ds n + one (eqb (length (values_in xs)) n && can_write m) =
+      λ n. rw (length_values xs) (more.writers n) in
       record {
         ends = counted_added xs (λ p. open_ends ds p) (λ p. open_ends es p) pipe facts.ends more.ends;
-        readers = rw values (tallies_added readers_at refl (values_in xs) (λ p. readers ds p) (λ p. readers es p) pipe (can_read m) facts.readers (omega (arith, reading_with m (endless ring))) reads_more);
-        writers = rw values (tallies_added writers_at refl (values_in xs) (λ p. writers ds p) (λ p. writers es p) pipe (can_write m) facts.writers (omega (arith, writing_with m (endless ring))) writes_more);
-        capacities = rw values (each_added (λ (pipe : StoredPipe). pipe.ring.capacity ≡ capacity) (values_in xs) pipe facts.capacities (ap (λ (ring : Ring). ring.capacity) (ring_with m (endless ring)) ∙ right));
+        readers = rw values (tallies_added readers_at refl (values_in xs) (λ p. readers ds p) (λ p. readers es p) pipe (can_read m) facts.readers
+            (omega (arith, reading_with m (endless ring))) reads_more);
+        writers = rw values (tallies_added writers_at refl (values_in xs) (λ p. writers ds p) (λ p. writers es p) pipe (can_write m) facts.writers
+            (omega (arith, writing_with m (endless ring))) writes_more);
+        capacities = rw values (each_added (λ (pipe : StoredPipe). pipe.ring.capacity ≡ capacity) (values_in xs) pipe facts.capacities
+            (ap (λ (ring : Ring). ring.capacity) (ring_with m (endless ring)) ∙ right));
       }
 
   -- an end of a pipe is stored with it
@@ -192,8 +210,10 @@ module _ (xs : Pipes) (ds : List (Option Description)) (capacity : ℕ) (facts :
           let stored : slot (values_in xs) n ≡ Some used.value = slot_values xs n ∙ ap value_at here in
           let reading : used.value.readers ≡ readers ds n = ap readers_at (sym stored) ∙ facts.readers n in
           let writing : used.value.writers ≡ writers ds n = ap writers_at (sym stored) ∙ facts.writers n in
-          let some_reader : can_read m ≡ true → 0 < used.value.readers = λ h. omega (arith, reading, count_there (reads n) refl ds k d is (ap (λ b. b && can_read d.mode) ending ∙ (ap can_read same ∙ h))) in
-          let some_writer : can_write m ≡ true → 0 < used.value.writers = λ h. omega (arith, writing, count_there (writes n) refl ds k d is (ap (λ b. b && can_write d.mode) ending ∙ (ap can_write same ∙ h))) in
+          let some_reader : can_read m ≡ true → 0 < used.value.readers =
+          λ h. omega (arith, reading, count_there (reads n) refl ds k d is (ap (λ b. b && can_read d.mode) ending ∙ (ap can_read same ∙ h))) in
+          let some_writer : can_write m ≡ true → 0 < used.value.writers =
+          λ h. omega (arith, writing, count_there (writes n) refl ds k d is (ap (λ b. b && can_write d.mode) ending ∙ (ap can_write same ∙ h))) in
           each m some_reader some_writer
         where
           each : (m : Mode) → (can_read m ≡ true → 0 < used.value.readers) → (can_write m ≡ true → 0 < used.value.writers) → HasEnd m used.value
@@ -211,16 +231,20 @@ module _ (xs : Pipes) (ds : List (Option Description)) (capacity : ℕ) (facts :
     loses_end = loses_use (counted_less e m xs) (λ p. open_ends ds p) (λ p. open_ends es p) e (counted e) less.ends
 
   abbrev Fewer : (List (Option Description)) → Option ℕ → Mode → Type 0
-  Fewer es e m = Tallies readers_at (values_in (counted_less e m xs)) (λ p. readers es p) × Tallies writers_at (values_in (counted_less e m xs)) (λ p. writers es p) ×
+  Fewer es e m = Tallies readers_at (values_in (counted_less e m xs)) (λ p. readers es p) × Tallies writers_at (values_in (counted_less e m xs))
+      (λ p. writers es p) ×
       EachThere (λ pipe. pipe.ring.capacity ≡ capacity) (values_in (counted_less e m xs))
 
   fewer : (es : List (Option Description)) (e : Option ℕ) (m : Mode) → Takes ds es e m → Fewer es e m
   fewer es None m less = (λ n. omega (arith, facts.readers n, less.readers n), λ n. omega (arith, facts.writers n, less.writers n), facts.capacities)
   fewer es (Some k) m less =
       let values = values_edited xs k (without_end m) in (
-        rw values (tallies_fewer readers_at refl (values_in xs) (λ p. readers ds p) (λ p. readers es p) k (without_end m) (can_read m) facts.readers (reading_without m) less.readers),
-        rw values (tallies_fewer writers_at refl (values_in xs) (λ p. writers ds p) (λ p. writers es p) k (without_end m) (can_write m) facts.writers (writing_without m) less.writers),
-        rw values (each_edited (λ (pipe : StoredPipe). pipe.ring.capacity ≡ capacity) (values_in xs) k (without_end m) facts.capacities (λ x h. ap (λ (ring : Ring). ring.capacity) (ring_without m x) ∙ h)),
+        rw values (tallies_fewer readers_at refl (values_in xs) (λ p. readers ds p) (λ p. readers es p) k (without_end m) (can_read m) facts.readers
+            (reading_without m) less.readers),
+        rw values (tallies_fewer writers_at refl (values_in xs) (λ p. writers ds p) (λ p. writers es p) k (without_end m) (can_write m) facts.writers
+            (writing_without m) less.writers),
+        rw values (each_edited (λ (pipe : StoredPipe). pipe.ring.capacity ≡ capacity) (values_in xs) k (without_end m) facts.capacities
+            (λ x h. ap (λ (ring : Ring). ring.capacity) (ring_without m x) ∙ h)),
       )
 
   pub pipes_closed : (es : List (Option Description)) (e : Option ℕ) (m : Mode) → Takes ds es e m → PipeFacts (without_use e (counted_less e m xs)) es capacity
@@ -230,25 +254,32 @@ module _ (xs : Pipes) (ds : List (Option Description)) (capacity : ℕ) (facts :
       let ys = counted_less e m xs in
       record {
         ends = loses.counted;
-        readers = tallies_less readers_at refl ys (λ p. open_ends es p) (λ p. readers es p) e loses.either (λ n nothing. omega (arith, nothing, (ends_within n es).1)) left.0;
-        writers = tallies_less writers_at refl ys (λ p. open_ends es p) (λ p. writers es p) e loses.either (λ n nothing. omega (arith, nothing, (ends_within n es).2)) left.1;
+        readers = tallies_less readers_at refl ys (λ p. open_ends es p) (λ p. readers es p) e loses.either
+            (λ n nothing. omega (arith, nothing, (ends_within n es).1)) left.0;
+        writers = tallies_less writers_at refl ys (λ p. open_ends es p) (λ p. writers es p) e loses.either
+            (λ n nothing. omega (arith, nothing, (ends_within n es).2)) left.1;
         capacities = each_left ys loses.either left.2;
       }
     where
-      each_left : (ys : Pipes) → StaysUsed ys (λ p. open_ends es p) e ⊎ Goes ys (λ p. open_ends es p) e → EachThere (λ pipe. pipe.ring.capacity ≡ capacity) (values_in ys) →
+      each_left : (ys : Pipes) → StaysUsed ys (λ p. open_ends es p) e ⊎ Goes ys (λ p. open_ends es p) e → EachThere (λ pipe. pipe.ring.capacity ≡ capacity)
+          (values_in ys) →
           EachThere (λ pipe. pipe.ring.capacity ≡ capacity) (values_in (without_use e ys))
       each_left ys (inl stays) each = rw stays.values each
-      each_left ys (inr goes) each = rw goes.values (each_set (λ (pipe : StoredPipe). pipe.ring.capacity ≡ capacity) (values_in ys) goes.number None each (λ x h. cc))
+      each_left ys (inr goes) each = rw goes.values (each_set (λ (pipe : StoredPipe). pipe.ring.capacity ≡ capacity) (values_in ys) goes.number None each
+          (λ x h. cc))
 
   same_number : (a b : ℕ) → Some a ≡ Some b → a ≡ b
   same_number a b e = cc
 
   released_at : (es : List (Option Description)) (k : ℕ) (m : Mode) → Takes ds es (Some k) m →
-      pipe_slots (values_in (without_use (Some k) (counted_less (Some k) m xs))) ≡ cond (is_open es k) (pipe_slots (values_in xs)) (set (pipe_slots (values_in xs)) k None)
+      pipe_slots (values_in (without_use (Some k) (counted_less (Some k) m xs))) ≡ cond (is_open es k) (pipe_slots (values_in xs))
+      (set (pipe_slots (values_in xs)) k None)
   released_at es k m less =
       let ys : Pipes = counted_less (Some k) m xs in
-      let same : pipe_slots (values_in ys) ≡ pipe_slots (values_in xs) = pipes_same xs k (without_end m) (λ x. ap (λ (ring : Ring). ring.bytes) (ring_without m x)) in
-      elim (loses_end es (Some k) m less).either as (λ _. pipe_slots (values_in (without_use (Some k) ys)) ≡ cond (is_open es k) (pipe_slots (values_in xs)) (set (pipe_slots (values_in xs)) k None)) [
+      let same : pipe_slots (values_in ys) ≡ pipe_slots (values_in xs) =
+      pipes_same xs k (without_end m) (λ x. ap (λ (ring : Ring). ring.bytes) (ring_without m x)) in
+      elim (loses_end es (Some k) m less).either as (λ _. pipe_slots (values_in (without_use (Some k) ys)) ≡ cond (is_open es k) (pipe_slots (values_in xs))
+      (set (pipe_slots (values_in xs)) k None)) [
         | inl stays ↦ let still : is_open es k ≡ true = open_of es k (stays.used k refl) in rw (still, stays.values) same
         | inr goes ↦
             let here : goes.number ≡ k = sym (same_number k goes.number goes.entry_is) in
@@ -257,7 +288,8 @@ module _ (xs : Pipes) (ds : List (Option Description)) (capacity : ℕ) (facts :
       ]
 
   -- what is left of the pipes of the world
-  pub pipes_released : (es : List (Option Description)) (t : Target) (m : Mode) → Takes ds es (pipe_at t) m → pipe_slots (values_in (pipes_left (Gone t m) xs)) ≡ pipes_after es (pipe_slots (values_in xs)) t
+  pub pipes_released : (es : List (Option Description)) (t : Target) (m : Mode) → Takes ds es (pipe_at t) m → pipe_slots (values_in (pipes_left (Gone t m) xs))
+      ≡ pipes_after es (pipe_slots (values_in xs)) t
   pipes_released es (target.Regular f) m less = refl
   pipes_released es (target.Pipe p) m less = released_at es p m less
   pipes_released es (target.Fifo f p) m less = released_at es p m less

@@ -44,7 +44,8 @@ pub regular_there : (xs : Files) (n : ℕ) → is_regular_file (slot (file_slots
 regular_there xs n regular = sym (files_there xs n) ∙ some_regular (slot (file_slots (values_in xs)) n) regular
 
 -- an edit of a file is an edit of the file of the world
-pub files_edited : (xs : Files) (n : ℕ) (f : StoredFile → StoredFile) (g : File → File) → ((stored : StoredFile) → file_in (f stored).body ≡ g (file_in stored.body)) →
+pub files_edited : (xs : Files) (n : ℕ) (f : StoredFile → StoredFile) (g : File → File) →
+    ((stored : StoredFile) → file_in (f stored).body ≡ g (file_in stored.body)) →
     file_slots (values_in (edited n (with_value f) xs)) ≡ edited n g (file_slots (values_in xs))
 files_edited xs n f g same =
     ap file_slots (values_edited xs n f) ∙ (file_slots_set (values_in xs) n (option_map f (slot (values_in xs) n)) ∙
@@ -55,7 +56,8 @@ files_edited xs n f g same =
     alike (Some stored) = ap Some (same stored)
 
 -- an edit that leaves the bytes alone leaves the files of the world
-pub files_same : (xs : Files) (n : ℕ) (f : StoredFile → StoredFile) → ((stored : StoredFile) → file_in (f stored).body ≡ file_in stored.body) → file_slots (values_in (edited n (with_value f) xs)) ≡ file_slots (values_in xs)
+pub files_same : (xs : Files) (n : ℕ) (f : StoredFile → StoredFile) → ((stored : StoredFile) → file_in (f stored).body ≡ file_in stored.body) →
+    file_slots (values_in (edited n (with_value f) xs)) ≡ file_slots (values_in xs)
 files_same xs n f same =
     ap file_slots (values_edited xs n f) ∙ map-set_same file_slot (values_in xs) n (option_map f (slot (values_in xs) n)) None (alike (slot (values_in xs) n))
   where
@@ -63,19 +65,24 @@ files_same xs n f same =
     alike None = refl
     alike (Some stored) = ap Some (same stored)
 
-body_written : (edit : List ℕ → List ℕ) (room : TableState) (b : FileBody) → is_regular_file (Some (file_in b)) ≡ true → file_in (edited_body edit room b) ≡ file.Regular (edit (file_bytes (Some (file_in b))))
+body_written : (edit : List ℕ → List ℕ) (room : TableState) (b : FileBody) → is_regular_file (Some (file_in b)) ≡ true →
+    file_in (edited_body edit room b) ≡ file.Regular (edit (file_bytes (Some (file_in b))))
 body_written edit room (body.Regular bytes) h = refl
 body_written edit room (body.Fifo fifo) h = cc
 
 module _ (xs : Files) (n : ℕ) where
   -- a file has other bytes
   pub files_written : (edit : List ℕ → List ℕ) (room : TableState) → is_regular_file (slot (file_slots (values_in xs)) n) ≡ true →
-      file_slots (values_in (edited n (with_value (edited_bytes edit room)) xs)) ≡ set (file_slots (values_in xs)) n (Some (file.Regular (edit (file_bytes (slot (file_slots (values_in xs)) n)))))
+      file_slots (values_in (edited n (with_value (edited_bytes edit room)) xs)) ≡ set (file_slots (values_in xs)) n
+      (Some (file.Regular (edit (file_bytes (slot (file_slots (values_in xs)) n)))))
   files_written edit room there =
-      ap file_slots (values_edited xs n (edited_bytes edit room)) ∙ (file_slots_set (values_in xs) n (option_map (edited_bytes edit room) (slot (values_in xs) n)) ∙
-      ap (λ y. set (file_slots (values_in xs)) n y) (written (slot (values_in xs) n) (ap is_regular_file (sym (slot_files (values_in xs) n)) ∙ there) ∙ ap (λ y. Some (file.Regular (edit (file_bytes y)))) (sym (slot_files (values_in xs) n))))
+      ap file_slots (values_edited xs n (edited_bytes edit room)) ∙
+      (file_slots_set (values_in xs) n (option_map (edited_bytes edit room) (slot (values_in xs) n)) ∙
+      ap (λ y. set (file_slots (values_in xs)) n y) (written (slot (values_in xs) n) (ap is_regular_file (sym (slot_files (values_in xs) n)) ∙ there) ∙
+      ap (λ y. Some (file.Regular (edit (file_bytes y)))) (sym (slot_files (values_in xs) n))))
     where
-      written : (x : Option StoredFile) → is_regular_file (file_slot x) ≡ true → file_slot (option_map (edited_bytes edit room) x) ≡ Some (file.Regular (edit (file_bytes (file_slot x))))
+      written : (x : Option StoredFile) → is_regular_file (file_slot x) ≡ true → file_slot (option_map (edited_bytes edit room) x) ≡ Some
+          (file.Regular (edit (file_bytes (file_slot x))))
       written None h = cc
       written (Some stored) h = ap Some (body_written edit room stored.body h)
 
@@ -96,7 +103,8 @@ module _ (ds : List (Option Description)) where
         | false ↦ λ _ bad. cc
       ] refl same
 
-      by_body : (b : FileBody) → without_gone_pipe ds (Some (file_in b)) ≡ Some (file_in b) → pipe_of_fifo (fifo_at (Some (file_in b))) ≡ Some p → is_open ds p ≡ true
+      by_body : (b : FileBody) → without_gone_pipe ds (Some (file_in b)) ≡ Some (file_in b) → pipe_of_fifo (fifo_at (Some (file_in b))) ≡ Some p →
+          is_open ds p ≡ true
       by_body (body.Regular bytes) same knows = cc
       by_body (body.Fifo fifo) same knows = by_pipe fifo.pipe (ap (λ x. pipe_of_fifo (fifo_at x)) same) knows
 
@@ -108,6 +116,7 @@ module _ (ds : List (Option Description)) where
       by_pipe None opens = refl
       by_pipe (Some q) opens = rw (opens q refl) refl
 
-      by_body : (b : FileBody) → ((p : ℕ) → pipe_of_fifo (fifo_at (Some (file_in b))) ≡ Some p → is_open ds p ≡ true) → without_gone_pipe ds (Some (file_in b)) ≡ Some (file_in b)
+      by_body : (b : FileBody) → ((p : ℕ) → pipe_of_fifo (fifo_at (Some (file_in b))) ≡ Some p → is_open ds p ≡ true) →
+          without_gone_pipe ds (Some (file_in b)) ≡ Some (file_in b)
       by_body (body.Regular bytes) opens = refl
       by_body (body.Fifo fifo) opens = ap (λ pipe. Some (file.Fifo (record fifo { pipe = pipe }))) (by_pipe fifo.pipe opens)

@@ -67,7 +67,8 @@ module _ {T : Type 0} (count : Option T → ℕ) (none : count None ≡ 0) where
           rw is (tallies_set xs old new k x (Some (f x)) tallies is (omega (arith, was, here, counts x, less k)) (others_less old new k b less))
 
   -- an edit that leaves the number alone
-  pub tallies_kept : (xs : List (Option T)) (total : ℕ → ℕ) (k : ℕ) (f : T → T) → ((x : T) → count (Some (f x)) ≡ count (Some x)) → Tallies count xs total → Tallies count (edited k f xs) total
+  pub tallies_kept : (xs : List (Option T)) (total : ℕ → ℕ) (k : ℕ) (f : T → T) → ((x : T) → count (Some (f x)) ≡ count (Some x)) → Tallies count xs total →
+      Tallies count (edited k f xs) total
   tallies_kept xs total k f same tallies = by_slot (slot xs k) refl
     where
       by_slot : (x : Option T) → slot xs k ≡ x → Tallies count (edited k f xs) total
@@ -75,7 +76,8 @@ module _ {T : Type 0} (count : Option T → ℕ) (none : count None ≡ 0) where
       by_slot (Some x) is = rw is (tallies_set xs total total k x (Some (f x)) tallies is (same x ∙ (ap count (sym is) ∙ tallies k)) (λ m _. refl))
 
   -- a value is added
-  pub tallies_added : (xs : List (Option T)) (old new : ℕ → ℕ) (x : T) (b : Bool) → Tallies count xs old → count (Some x) ≡ one b → ((n : ℕ) → new n ≡ old n + one (eqb (length xs) n && b)) →
+  pub tallies_added : (xs : List (Option T)) (old new : ℕ → ℕ) (x : T) (b : Bool) → Tallies count xs old → count (Some x) ≡ one b →
+      ((n : ℕ) → new n ≡ old n + one (eqb (length xs) n && b)) →
       Tallies count (xs ++ Some x ∷ []) new
   tallies_added xs old new x b tallies counts more n = elim (same_or_not (length xs) n) [
     | inl same ↦
@@ -86,8 +88,10 @@ module _ {T : Type 0} (count : Option T → ℕ) (none : count None ≡ 0) where
   ]
 
   -- what goes with its last use has no number left
-  pub tallies_less : (xs : List (Option (Used T))) (uses total : ℕ → ℕ) (entry : Option ℕ) → StaysUsed xs uses entry ⊎ Goes xs uses entry → ((n : ℕ) → uses n ≡ 0 → total n ≡ 0) →
+  pub tallies_less : (xs : List (Option (Used T))) (uses total : ℕ → ℕ) (entry : Option ℕ) → StaysUsed xs uses entry ⊎ Goes xs uses entry →
+      ((n : ℕ) → uses n ≡ 0 → total n ≡ 0) →
       Tallies count (values_in xs) total → Tallies count (values_in (without_use entry xs)) total
   tallies_less xs uses total entry (inl stays) within tallies = rw stays.values tallies
   tallies_less xs uses total entry (inr goes) within tallies =
-      rw goes.values (tallies_set (values_in xs) total total goes.number goes.value None tallies goes.is (none ∙ sym (within goes.number goes.none)) (λ m _. refl))
+      rw goes.values (tallies_set (values_in xs) total total goes.number goes.value None tallies goes.is (none ∙ sym (within goes.number goes.none))
+      (λ m _. refl))

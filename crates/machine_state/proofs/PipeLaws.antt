@@ -64,7 +64,8 @@ pipes_edited xs n f g same =
     alike (Some pipe) = ap Some (same pipe)
 
 -- an edit that leaves the bytes alone leaves the pipes of the world
-pub pipes_same : (xs : Pipes) (n : ℕ) (f : StoredPipe → StoredPipe) → ((pipe : StoredPipe) → (f pipe).ring.bytes ≡ pipe.ring.bytes) → pipe_slots (values_in (edited n (with_value f) xs)) ≡ pipe_slots (values_in xs)
+pub pipes_same : (xs : Pipes) (n : ℕ) (f : StoredPipe → StoredPipe) → ((pipe : StoredPipe) → (f pipe).ring.bytes ≡ pipe.ring.bytes) →
+    pipe_slots (values_in (edited n (with_value f) xs)) ≡ pipe_slots (values_in xs)
 pipes_same xs n f same =
     ap pipe_slots (values_edited xs n f) ∙ map-set_same pipe_slot (values_in xs) n (option_map f (slot (values_in xs) n)) None (alike (slot (values_in xs) n))
   where

@@ -31,7 +31,8 @@ module _ (s : Stored) (all : IsConsistent s) where
   abbrev pub added : List (Option ℕ) → Bool → Stored
   added table attached = record s { descriptions = with_uses table s.descriptions; processes = s.processes ++ Some (process_with table attached) ∷ [] }
 
-  pub after_add : (table : List (Option ℕ)) (attached : Bool) → CanAdd (world_in s) table → live s.processes < PROCESSES_MAX → IsConsistent (added table attached)
+  pub after_add : (table : List (Option ℕ)) (attached : Bool) → CanAdd (world_in s) table → live s.processes < PROCESSES_MAX →
+      IsConsistent (added table attached)
   after_add table attached can few =
       let facts = facts_of s all in
       let child = process_with table attached in
@@ -90,7 +91,8 @@ module _ (s : Stored) (all : IsConsistent s) where
       })
 
 -- a descriptor of a process that is there can be closed
-pub can_close : (w : World) (p fd : ℕ) → EachThere (λ process. length process.table ≡ OPEN_MAX) w.processes → IsThere w.processes p → fd < OPEN_MAX → CanSet w p fd None
+pub can_close : (w : World) (p fd : ℕ) → EachThere (λ process. length process.table ≡ OPEN_MAX) w.processes → IsThere w.processes p → fd < OPEN_MAX →
+    CanSet w p fd None
 can_close w p fd tables there below = by_slot (slot w.processes p) refl there
   where
     by_slot : (x : Option Process) → slot w.processes p ≡ x → is_some x ≡ true → CanSet w p fd None
@@ -126,7 +128,8 @@ freed_again (Some x ∷ ps) zero fd free = ap (λ table. Some (record x { table 
 freed_again (x ∷ ps) (suc p) fd free = ap (λ qs. x ∷ qs) (freed_again ps p fd free)
 
 -- where the descriptors from a number on are not open, closing them too changes nothing
-closed_on : (p from more : ℕ) (w u : World) → u ≡ closed_below p from w → sweep u ≡ u → ((k : ℕ) → from ≤ k → k < from + more → slot (table_of (slot u.processes p)) k ≡ None) →
+closed_on : (p from more : ℕ) (w u : World) → u ≡ closed_below p from w → sweep u ≡ u →
+    ((k : ℕ) → from ≤ k → k < from + more → slot (table_of (slot u.processes p)) k ≡ None) →
     closed_below p (from + more) w ≡ u
 closed_on p from zero w u is settled free =
     let place : from + 0 ≡ from = omega arith in
@@ -135,9 +138,11 @@ closed_on p from (suc more) w u is settled free =
     let before = closed_on p from more w u is settled (λ k after below. free k after (omega (arith, below))) in
     let place : from + suc more ≡ suc (from + more) = omega arith in
     let same = freed_again u.processes p (from + more) (free (from + more) (omega arith) (omega arith)) in
-    ap (λ n. closed_below p n w) place ∙ ap (λ v. sweep (with_descriptor v p (from + more) None)) before ∙ ap (λ ps. sweep (record u { processes = ps })) same ∙ settled
+    ap (λ n. closed_below p n w) place ∙ ap (λ v. sweep (with_descriptor v p (from + more) None)) before ∙ ap (λ ps. sweep (record u { processes = ps })) same ∙
+    settled
 
-pub closed_to : (p from to : ℕ) (w u : World) → from ≤ to → u ≡ closed_below p from w → sweep u ≡ u → ((k : ℕ) → from ≤ k → k < to → slot (table_of (slot u.processes p)) k ≡ None) →
+pub closed_to : (p from to : ℕ) (w u : World) → from ≤ to → u ≡ closed_below p from w → sweep u ≡ u →
+    ((k : ℕ) → from ≤ k → k < to → slot (table_of (slot u.processes p)) k ≡ None) →
     closed_below p to w ≡ u
 closed_to p from to w u after is settled free =
     let place : to ≡ from + (to - from) = omega (arith, after) in

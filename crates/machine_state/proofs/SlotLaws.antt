@@ -23,7 +23,8 @@ module _ {T : Type 0} where
   -- a live slot that is written has what was written, and the others what they had
   pub slot_set : (xs : List (Option T)) (n : ℕ) (x : T) (y : Option T) (m : ℕ) → slot xs n ≡ Some x → slot (set xs n y) m ≡ cond (eqb n m) y (slot xs m)
   slot_set xs n x y m is = elim (same_or_not n m) [
-    | inl same ↦ rw (same.1, same.0) (get_or-set_same xs m y None (let P : ℕ → Type 0 = λ k. k < length xs in subst P same.0 (there_below xs n (ap is_some is))))
+    | inl same ↦ rw (same.1, same.0) (get_or-set_same xs m y None (let P : ℕ → Type 0 = λ k. k < length xs in
+        subst P same.0 (there_below xs n (ap is_some is))))
     | inr other ↦ rw other.1 (get_or-set_other xs n m y None (λ e. other.0 (sym e)))
   ]
 

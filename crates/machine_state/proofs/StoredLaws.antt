@@ -58,12 +58,17 @@ facts_of s all =
       uses = λ f. record { uses = all.uses f; some = λ there. all.settled.files f (files_there s.files f ∙ there) };
       links = all.links;
       pipes = record {
-        ends = λ p. record { uses = all.ends p; some = λ there. some_of ds p (lt-ltb 0 (readers ds p + writers ds p) (all.settled.pipes p (pipes_there s.pipes p ∙ there))) };
+        ends = λ p. record {
+          uses = all.ends p;
+          some =
+              λ there. some_of ds p (lt-ltb 0 (readers ds p + writers ds p) (all.settled.pipes p (pipes_there s.pipes p ∙ there)));
+        };
         readers = all.readers;
         writers = all.writers;
         capacities = all.capacities;
       };
-      fifos = λ n p knows. some_of ds p (known_open ds (slot states n) p (ap (without_gone_pipe ds) (sym (slot_files states n)) ∙ (all.settled.fifos n ∙ slot_files states n)) knows);
+      fifos = λ n p knows. some_of ds p (known_open ds (slot states n) p (ap (without_gone_pipe ds) (sym (slot_files states n)) ∙
+          (all.settled.fifos n ∙ slot_files states n)) knows);
       spare = all.spare;
       tables = all.tables;
       few_processes = all.few_processes;
@@ -104,14 +109,16 @@ module _ (states : List (Option StoredFile)) (ds : List (Option Description)) (k
   pub knows_more : (es : List (Option Description)) → ((p : ℕ) → open_ends ds p ≤ open_ends es p) → KnowsOpen states es
   knows_more es more n p h = omega (arith, knows n p h, more p)
 
-  pub knows_set : (k : ℕ) (x : StoredFile) (y : Option StoredFile) → slot states k ≡ Some x → ((p : ℕ) → known y ≡ Some p → 0 < open_ends ds p) → KnowsOpen (set states k y) ds
+  pub knows_set : (k : ℕ) (x : StoredFile) (y : Option StoredFile) → slot states k ≡ Some x → ((p : ℕ) → known y ≡ Some p → 0 < open_ends ds p) →
+      KnowsOpen (set states k y) ds
   knows_set k x y is new n p h =
       elim (same_or_not k n) [
         | inl same ↦ new p (sym (ap known (slot_set states k x y n is ∙ ap (λ b. cond b y (slot states n)) same.1)) ∙ h)
         | inr other ↦ knows n p (sym (ap known (slot_set states k x y n is ∙ ap (λ b. cond b y (slot states n)) other.1)) ∙ h)
       ]
 
-  pub knows_edited : (k : ℕ) (f : StoredFile → StoredFile) → ((x : StoredFile) (p : ℕ) → slot states k ≡ Some x → known (Some (f x)) ≡ Some p → 0 < open_ends ds p) → KnowsOpen (edited k f states) ds
+  pub knows_edited : (k : ℕ) (f : StoredFile → StoredFile) → ((x : StoredFile) (p : ℕ) → slot states k ≡ Some x → known (Some (f x)) ≡ Some p →
+      0 < open_ends ds p) → KnowsOpen (edited k f states) ds
   knows_edited k f new = by_slot (slot states k) refl
     where
       by_slot : (x : Option StoredFile) → slot states k ≡ x → KnowsOpen (edited k f states) ds
@@ -121,7 +128,8 @@ module _ (states : List (Option StoredFile)) (ds : List (Option Description)) (k
   pub knows_added : (x : StoredFile) → known (Some x) ≡ None → KnowsOpen (states ++ Some x ∷ []) ds
   knows_added x unknown n p h =
       elim (same_or_not (length states) n) [
-        | inl same ↦ let bad : None ≡ Some p = sym unknown ∙ (sym (ap known (slot_added states (Some x) n ∙ ap (λ b. cond b (Some x) (slot states n)) same.1)) ∙ h) in cc
+        | inl same ↦ let bad : None ≡ Some p = sym unknown ∙ (sym (ap known (slot_added states (Some x) n ∙ ap (λ b. cond b (Some x) (slot states n)) same.1)) ∙
+            h) in cc
         | inr other ↦ knows n p (sym (ap known (slot_added states (Some x) n ∙ ap (λ b. cond b (Some x) (slot states n)) other.1)) ∙ h)
       ]
 
@@ -181,7 +189,8 @@ module _ (s : Stored) (all : IsConsistent s) where
 
   -- a file is another, with as many names, and knows no pipe that is closed
   pub after_edit : (n : ℕ) (f : StoredFile → StoredFile) → ((x : StoredFile) → (f x).links ≡ x.links) →
-      ((x : StoredFile) (p : ℕ) → slot (values_in s.files) n ≡ Some x → known (Some (f x)) ≡ Some p → 0 < open_ends ds p) → IsConsistent (record s { files = edited n (with_value f) s.files })
+      ((x : StoredFile) (p : ℕ) → slot (values_in s.files) n ≡ Some x → known (Some (f x)) ≡ Some p → 0 < open_ends ds p) →
+      IsConsistent (record s { files = edited n (with_value f) s.files })
   after_edit n f same knows =
       let facts = facts_of s all in
       consistent_of (record s { files = edited n (with_value f) s.files }) (record {
@@ -198,7 +207,8 @@ module _ (s : Stored) (all : IsConsistent s) where
       })
 
   -- a file has other bytes
-  pub after_bytes : (n : ℕ) (edit : List ℕ → List ℕ) (room : TableState) → IsConsistent (record s { files = edited n (with_value (edited_bytes edit room)) s.files })
+  pub after_bytes : (n : ℕ) (edit : List ℕ → List ℕ) (room : TableState) →
+      IsConsistent (record s { files = edited n (with_value (edited_bytes edit room)) s.files })
   after_bytes n edit room = after_edit n (edited_bytes edit room) (λ x. refl) (λ x p is h. (facts_of s all).fifos n p (ap known is ∙ (sym (alike x.body) ∙ h)))
     where
       alike : (b : FileBody) → pipe_of_fifo (fifo_at (Some (file_in (edited_body edit room b)))) ≡ pipe_of_fifo (fifo_at (Some (file_in b)))
@@ -233,11 +243,13 @@ module _ (s : Stored) (all : IsConsistent s) where
   pub block_world : (n block : ℕ) → world_in (record s { pipes = edited n (with_value (with_block block)) s.pipes }) ≡ world_in s
   block_world n block = ap (λ pipes. record (world_in s) { pipes = pipes }) (pipes_same s.pipes n (with_block block) (λ x. refl))
 
-  pub written_world : (n : ℕ) (edit : List ℕ → List ℕ) → world_in (record s { pipes = edited n (with_value (edited_ring edit)) s.pipes }) ≡ record (world_in s) { pipes = edited n edit (world_in s).pipes }
+  pub written_world : (n : ℕ) (edit : List ℕ → List ℕ) → world_in (record s { pipes = edited n (with_value (edited_ring edit)) s.pipes }) ≡ record
+      (world_in s) { pipes = edited n edit (world_in s).pipes }
   written_world n edit = ap (λ pipes. record (world_in s) { pipes = pipes }) (pipes_edited s.pipes n (edited_ring edit) edit (λ x. refl))
 
   -- a ring with places for bytes is a pipe with room for them
-  pub put_room : (n count : ℕ) → HasPlacesAt s.pipes n count → min count (s.capacity - held_in (world_in s) n) ≤ block_at (block_slots (values_in s.pipes)) n - held_in (world_in s) n
+  pub put_room : (n count : ℕ) → HasPlacesAt s.pipes n count → min count (s.capacity - held_in (world_in s) n) ≤ block_at
+      (block_slots (values_in s.pipes)) n - held_in (world_in s) n
   put_room n count has =
       let held : held_in (world_in s) n ≡ length has.0.value.ring.bytes = ap length (held_there s.pipes n has.0 has.1) in
       let right : has.0.value.ring.capacity ≡ s.capacity = all.capacities n has.0.value (slot_values s.pipes n ∙ ap value_at has.1) in
@@ -245,23 +257,28 @@ module _ (s : Stored) (all : IsConsistent s) where
 
   -- what is put has places in the ring
   pub fits_ring : (n count : ℕ) → count ≤ s.capacity - held_in (world_in s) n →
-      min count (s.capacity - held_in (world_in s) n) ≤ block_at (block_slots (values_in s.pipes)) n - held_in (world_in s) n → count ≤ places_left (value_at (slot s.pipes n))
+      min count (s.capacity - held_in (world_in s) n) ≤ block_at (block_slots (values_in s.pipes)) n - held_in (world_in s) n →
+      count ≤ places_left (value_at (slot s.pipes n))
   fits_ring n count few room =
       let held : held_in (world_in s) n ≡ length (held_at (value_at (slot s.pipes n))) = ap length (held_is s.pipes n ∙ ap held_at (slot_values s.pipes n)) in
       omega (arith, few, room, held, block_is s.pipes n)
 
   -- a new file has a new name
-  pub after_create : (name : List ℕ) (stored : StoredFile) → stored.links ≡ 1 → known (Some stored) ≡ None → file_of name s.names ≡ None → length s.names < NAMES_MAX →
+  pub after_create : (name : List ℕ) (stored : StoredFile) → stored.links ≡ 1 → known (Some stored) ≡ None → file_of name s.names ≡ None →
+      length s.names < NAMES_MAX →
       IsConsistent (record s { files = s.files ++ Some (used_once stored) ∷ []; names = with_name name (length s.files) s.names })
   after_create name stored single unknown new few =
       let facts = facts_of s all in
       let more : (g : ℕ) → links (with_name name (length s.files) s.names) g ≡ links s.names g + one (length (values_in s.files) == g && true) =
-      λ g. rw (length_values s.files) (links_added name (length s.files) g s.names new ∙ ap (λ b. links s.names g + one b) (sym (and_true (length s.files == g)))) in
+      λ g. rw (length_values s.files) (links_added name (length s.files) g s.names new ∙
+      ap (λ b. links s.names g + one b) (sym (and_true (length s.files == g)))) in
       consistent_of (record s { files = s.files ++ Some (used_once stored) ∷ []; names = with_name name (length s.files) s.names }) (record {
         references = facts.references;
-        uses = counted_added s.files (λ g. links s.names g + holders ds g) (λ g. links (with_name name (length s.files) s.names) g + holders ds g) stored facts.uses
+        uses = counted_added s.files (λ g. links s.names g + holders ds g) (λ g. links (with_name name (length s.files) s.names) g + holders ds g) stored
+            facts.uses
             (λ g. omega (arith, links_added name (length s.files) g s.names new));
-        links = rw (values_added s.files stored) (tallies_added links_at refl (values_in s.files) (λ g. links s.names g) (λ g. links (with_name name (length s.files) s.names) g) stored true facts.links single more);
+        links = rw (values_added s.files stored) (tallies_added links_at refl (values_in s.files) (λ g. links s.names g)
+            (λ g. links (with_name name (length s.files) s.names) g) stored true facts.links single more);
         pipes = facts.pipes;
         fifos = rw (values_added s.files stored) (knows_added (values_in s.files) ds facts.fifos stored unknown);
         spare = facts.spare;
@@ -281,21 +298,25 @@ module _ (s : Stored) (all : IsConsistent s) where
   pub same_entry : (a b : ℕ) → Some a ≡ Some b → a ≡ b
   same_entry a b e = cc
 
-  pub after_link : (name : List ℕ) (file : ℕ) → file_of name s.names ≡ None → IsThere (world_in s).files file → length s.names < NAMES_MAX → IsConsistent (linked name file)
+  pub after_link : (name : List ℕ) (file : ℕ) → file_of name s.names ≡ None → IsThere (world_in s).files file → length s.names < NAMES_MAX →
+      IsConsistent (linked name file)
   after_link name file new there few =
       let facts = facts_of s all in
       let stored : is_some (slot s.files file) ≡ true = sym (files_there s.files file) ∙ there in
       let xs = named_files file in
       let values : values_in (use_added file xs) ≡ edited file named (values_in s.files) = values_more xs (Some file) ∙ values_edited s.files file named in
       let more : (g : ℕ) → links (with_name name file s.names) g ≡ links s.names g + one (file == g) = λ g. links_added name file g s.names new in
-      let once : (g : ℕ) → links (with_name name file s.names) g ≡ links s.names g + one (file == g && true) = λ g. more g ∙ ap (λ b. links s.names g + one b) (sym (and_true (file == g))) in
+      let once : (g : ℕ) → links (with_name name file s.names) g ≡ links s.names g + one (file == g && true) = λ g. more g ∙
+      ap (λ b. links s.names g + one b) (sym (and_true (file == g))) in
       consistent_of (linked name file) (record {
         references = facts.references;
         uses = counted_more xs (λ g. links s.names g + holders ds g) (λ g. links (with_name name file s.names) g + holders ds g) (Some file)
             (counted_edited s.files (λ g. links s.names g + holders ds g) file named facts.uses)
-            (λ n is. let P : ℕ → Type 0 = λ k. is_some (slot xs k) ≡ true in subst P (same_entry file n is) (there_edited s.files file (with_value named) file stored))
+            (λ n is. let P : ℕ → Type 0 = λ k. is_some (slot xs k) ≡ true in
+            subst P (same_entry file n is) (there_edited s.files file (with_value named) file stored))
             (λ g. omega (arith, more g));
-        links = rw values (tallies_more links_at refl (values_in s.files) (λ g. links s.names g) (λ g. links (with_name name file s.names) g) file named true facts.links (there_values s.files file ∙ stored) (λ x. refl) once);
+        links = rw values (tallies_more links_at refl (values_in s.files) (λ g. links s.names g) (λ g. links (with_name name file s.names) g) file named true
+            facts.links (there_values s.files file ∙ stored) (λ x. refl) once);
         pipes = facts.pipes;
         fifos = rw values (knows_edited (values_in s.files) ds facts.fifos file named (λ x p is h. facts.fifos file p (ap known is ∙ h)));
         spare = facts.spare;
@@ -312,7 +333,8 @@ module _ (s : Stored) (all : IsConsistent s) where
   abbrev pub moved_name : List ℕ → List ℕ → ℕ → Stored
   moved_name old new file = record s { names = with_name new file (without_name old s.names) }
 
-  pub same_links : (old new : List ℕ) (file : ℕ) → file_of new s.names ≡ None → ((g : ℕ) → links (without_name old s.names) g + one (file == g) ≡ links s.names g) →
+  pub same_links : (old new : List ℕ) (file : ℕ) → file_of new s.names ≡ None →
+      ((g : ℕ) → links (without_name old s.names) g + one (file == g) ≡ links s.names g) →
       (g : ℕ) → links (with_name new file (without_name old s.names)) g ≡ links s.names g
   same_links old new file none fewer g = omega (arith, links_added new file g (without_name old s.names) (still_none old new s.names none), fewer g)
 
@@ -322,7 +344,8 @@ module _ (s : Stored) (all : IsConsistent s) where
       let facts = facts_of s all in
       consistent_of (moved_name old new file) (record {
         references = facts.references;
-        uses = counted_as s.files (λ g. links s.names g + holders ds g) (λ g. links (with_name new file (without_name old s.names)) g + holders ds g) facts.uses (λ g. ap (λ k. k + holders ds g) (same g));
+        uses = counted_as s.files (λ g. links s.names g + holders ds g) (λ g. links (with_name new file (without_name old s.names)) g + holders ds g) facts.uses
+            (λ g. ap (λ k. k + holders ds g) (same g));
         links = λ n. facts.links n ∙ sym (same n);
         pipes = facts.pipes;
         fifos = facts.fifos;
@@ -330,11 +353,17 @@ module _ (s : Stored) (all : IsConsistent s) where
         tables = facts.tables;
         few_processes = facts.few_processes;
         few_descriptions = facts.few_descriptions;
-        few_names = omega (arith, facts.few_names, names_longer new file (without_name old s.names) (still_none old new s.names none), one_fewer old s.names (ap is_some is));
+        few_names = omega (
+          arith,
+          facts.few_names,
+          names_longer new file (without_name old s.names) (still_none old new s.names none),
+          one_fewer old s.names (ap is_some is),
+        );
       })
 
   -- a description has another offset, or other flags
-  pub after_description : (n : ℕ) (f : Description → Description) → StaysOpen f → IsConsistent (record s { descriptions = edited n (with_value f) s.descriptions })
+  pub after_description : (n : ℕ) (f : Description → Description) → StaysOpen f →
+      IsConsistent (record s { descriptions = edited n (with_value f) s.descriptions })
   after_description n f stays =
       let facts = facts_of s all in
       let t = record s { descriptions = edited n (with_value f) s.descriptions } in
@@ -345,7 +374,8 @@ module _ (s : Stored) (all : IsConsistent s) where
             (λ g. rw values (ap (λ k. links s.names g + k) (holders_same ds n f stays g)));
         links = facts.links;
         pipes = rw values (pipes_moved s.pipes ds s.capacity facts.pipes n f stays);
-        fifos = rw values (knows_more (values_in s.files) ds facts.fifos (edited n f ds) (λ p. omega (arith, (facts.pipes.ends p).uses, ((pipes_moved s.pipes ds s.capacity facts.pipes n f stays).ends p).uses)));
+        fifos = rw values (knows_more (values_in s.files) ds facts.fifos (edited n f ds)
+            (λ p. omega (arith, (facts.pipes.ends p).uses, ((pipes_moved s.pipes ds s.capacity facts.pipes n f stays).ends p).uses)));
         spare = facts.spare;
         tables = facts.tables;
         few_processes = facts.few_processes;
@@ -354,7 +384,8 @@ module _ (s : Stored) (all : IsConsistent s) where
       })
 
   -- its world
-  pub description_world : (n : ℕ) (f : Description → Description) → world_in (record s { descriptions = edited n (with_value f) s.descriptions }) ≡ record (world_in s) { descriptions = edited n f (world_in s).descriptions }
+  pub description_world : (n : ℕ) (f : Description → Description) → world_in (record s { descriptions = edited n (with_value f) s.descriptions }) ≡ record
+      (world_in s) { descriptions = edited n f (world_in s).descriptions }
   description_world n f = ap (λ es. record (world_in s) { descriptions = es }) (values_edited s.descriptions n f)
 
   -- a process has another entry

@@ -41,7 +41,11 @@ module _ {T : Type 0} where
     where
       by_slot : (x : Option (Used T)) → slot xs k ≡ x → is_some (slot (edited k f xs) n) ≡ true
       by_slot None is = rw (is, set_none xs k is) there
-      by_slot (Some x) is = rw (is, slot_set xs k x (Some (f x)) n is) (elim (eqb k n) as (λ b. is_some (cond b (Some (f x)) (slot xs n)) ≡ true) [ true ↦ refl | false ↦ there ])
+      by_slot (Some x) is = rw (is, slot_set xs k x (Some (f x)) n is) (elim (eqb k n) as (λ b. is_some (cond b (Some (f x)) (slot xs n)) ≡ true) [
+        | true ↦
+            refl
+        | false ↦ there
+      ])
 
   -- what is used is there
   pub positive : (x : Option (Used T)) → 0 < uses_at x → is_some x ≡ true
@@ -65,7 +69,8 @@ module _ {T : Type 0} where
   ]
 
   -- something refers to what is there
-  pub counted_more : (xs : List (Option (Used T))) (old new : ℕ → ℕ) (entry : Option ℕ) → Counted xs old → ((n : ℕ) → entry ≡ Some n → is_some (slot xs n) ≡ true) →
+  pub counted_more : (xs : List (Option (Used T))) (old new : ℕ → ℕ) (entry : Option ℕ) → Counted xs old →
+      ((n : ℕ) → entry ≡ Some n → is_some (slot xs n) ≡ true) →
       ((n : ℕ) → new n ≡ old n + one (refers n entry)) → Counted (with_use entry xs) new
   counted_more xs old new None counted there more = counted_as xs old new counted (λ n. omega (arith, more n))
   counted_more xs old new (Some k) counted there more =
@@ -116,11 +121,13 @@ module _ {T : Type 0} where
   uses_push [] e xs = refl
   uses_push (x ∷ es) e xs = uses_push es e (with_use x xs)
 
-  pub counted_uses : (es : List (Option ℕ)) (xs : List (Option (Used T))) (old new : ℕ → ℕ) → Counted xs old → ((k n : ℕ) → slot es k ≡ Some n → is_some (slot xs n) ≡ true) →
+  pub counted_uses : (es : List (Option ℕ)) (xs : List (Option (Used T))) (old new : ℕ → ℕ) → Counted xs old →
+      ((k n : ℕ) → slot es k ≡ Some n → is_some (slot xs n) ≡ true) →
       ((n : ℕ) → new n ≡ old n + count_by (refers n) es) → Counted (with_uses es xs) new
   counted_uses [] xs old new counted there more = counted_as xs old new counted (λ n. omega (arith, more n))
   counted_uses (e ∷ es) xs old new counted there more =
-      counted_uses es (with_use e xs) (λ n. old n + one (refers n e)) new (counted_more xs old (λ n. old n + one (refers n e)) e counted (λ n is. there 0 n is) (λ n. refl))
+      counted_uses es (with_use e xs) (λ n. old n + one (refers n e)) new (counted_more xs old (λ n. old n + one (refers n e)) e counted (λ n is. there 0 n is)
+      (λ n. refl))
       (λ k n is. there_use xs e n (there (suc k) n is)) (λ n. omega (arith, more n, sum_by-cons (λ x. one (refers n x)) e es))
 
   pub values_uses : (es : List (Option ℕ)) (xs : List (Option (Used T))) → values_in (with_uses es xs) ≡ values_in xs
@@ -134,7 +141,8 @@ module _ {T : Type 0} where
     | inl same ↦
         let once : one (length xs == n) ≡ 1 = ap one same.1 in
         let none : uses_at (slot xs n) ≡ 0 = ap uses_at (get_or-eq_default xs None (omega (arith, same.0))) in
-        rw (slot_added xs (Some (used_once value)) n, same.1) (record { uses = omega (arith, once, none, (counted n).uses, more n); some = λ _. omega (arith, once, more n) })
+        rw (slot_added xs (Some (used_once value)) n, same.1)
+        (record { uses = omega (arith, once, none, (counted n).uses, more n); some = λ _. omega (arith, once, more n) })
     | inr other ↦
         let none : one (length xs == n) ≡ 0 = ap one other.1 in
         let as_was : new n ≡ old n = omega (arith, none, more n) in
@@ -153,7 +161,8 @@ module _ {T : Type 0} where
           rw is (counted_set xs total total k used (Some (with_value f used)) counted is (record { uses = was; some = λ _. some }) (λ m _. refl))
 
   pub values_edited : (xs : List (Option (Used T))) (k : ℕ) (f : T → T) → values_in (edited k (with_value f) xs) ≡ edited k f (values_in xs)
-  values_edited xs k f = map-set value_at xs k (option_map (with_value f) (slot xs k)) ∙ ap (λ y. set (values_in xs) k y) (alike (slot xs k) ∙ ap (option_map f) (sym (slot_values xs k)))
+  values_edited xs k f = map-set value_at xs k (option_map (with_value f) (slot xs k)) ∙
+      ap (λ y. set (values_in xs) k y) (alike (slot xs k) ∙ ap (option_map f) (sym (slot_values xs k)))
     where
       alike : (x : Option (Used T)) → value_at (option_map (with_value f) x) ≡ option_map f (value_at x)
       alike None = refl
@@ -179,7 +188,8 @@ module _ {T : Type 0} where
     pub counted : Counted (without_use entry xs) new
     pub either : StaysUsed xs new entry ⊎ Goes xs new entry
 
-  pub loses_use : (xs : List (Option (Used T))) (old new : ℕ → ℕ) (entry : Option ℕ) → Counted xs old → ((n : ℕ) → new n + one (refers n entry) ≡ old n) → LosesUse xs new entry
+  pub loses_use : (xs : List (Option (Used T))) (old new : ℕ → ℕ) (entry : Option ℕ) → Counted xs old → ((n : ℕ) → new n + one (refers n entry) ≡ old n) →
+      LosesUse xs new entry
   loses_use xs old new None counted less = record {
     counted = counted_as xs old new counted (λ n. omega (arith, less n));
     either = inl (record { used = λ k is. cc; values = refl; lost = refl });
@@ -207,7 +217,8 @@ module _ {T : Type 0} where
                 let many : 1 < used.uses = ltb-true 1 used.uses e in
                 let slot_is : one_less (slot xs k) ≡ Some (record used { uses = used.uses - 1 }) = ap one_less is ∙ rw e refl in
                 record {
-                  counted = rw slot_is (counted_set xs old new k used (Some (record used { uses = used.uses - 1 })) counted is (record { uses = omega (arith, was); some = λ _. omega (arith, was, many) }) others);
+                  counted = rw slot_is (counted_set xs old new k used (Some (record used { uses = used.uses - 1 })) counted is
+                      (record { uses = omega (arith, was); some = λ _. omega (arith, was, many) }) others);
                   either = inl (record {
                     used = λ n same. let P : ℕ → Type 0 = λ n. 0 < new n in subst P (same_some k n same) (omega (arith, was, many));
                     values = rw slot_is (map-set_same value_at xs k (Some (record used { uses = used.uses - 1 })) None (ap value_at (sym is)));

@@ -13,7 +13,8 @@ abbrev pub from : List ℕ → List ℕ → ℕ → Bool
 from xs ys i = is_gt (slice_cmp nat_cmp (drop i xs) (drop i ys))
 
 -- a byte that differs decides
-pub decided : (xs ys : List ℕ) (i : ℕ) → i < length xs → i < length ys → (get_or xs i 0 ≡ get_or ys i 0 → ⊥) → nat_lt (get_or ys i 0) (get_or xs i 0) ≡ from xs ys i
+pub decided : (xs ys : List ℕ) (i : ℕ) → i < length xs → i < length ys → (get_or xs i 0 ≡ get_or ys i 0 → ⊥) →
+    nat_lt (get_or ys i 0) (get_or xs i 0) ≡ from xs ys i
 decided [] ys i a b apart = absurd (omega arith)
 decided (x ∷ xs) [] i a b apart = absurd (omega arith)
 decided (x ∷ xs) (y ∷ ys) zero a b apart = elim (cases_order x y) [

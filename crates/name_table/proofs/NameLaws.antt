@@ -95,18 +95,23 @@ partitioned name (e ∷ es) h zero (suc j) d le within passes = earlier (to name
     earlier Less is g = cc
     earlier Equal is g = cc
     earlier Greater is g =
-        let later : to e.0 name ≡ Less = nat_list_cmp_total.trans e.0 other name (entry_after e.0 es j d (rest_named e es h).0 (omega (arith, within))) (turned name other Greater is) in
+        let later : to e.0 name ≡ Less = nat_list_cmp_total.trans e.0 other name (entry_after e.0 es j d (rest_named e es h).0 (omega (arith, within)))
+        (turned name other Greater is) in
         ap is_gt (turned e.0 name Less later)
 partitioned name (e ∷ es) h (suc i) zero d le within passes = absurd (omega arith)
 partitioned name (e ∷ es) h (suc i) (suc j) d le within passes = partitioned name es (rest_named e es h).1 i j d (omega arith) (omega (arith, within)) passes
 
 -- where a list is parted by a test, so many pass it in front
-pub prefix_parted : {X : Type 0} (p : X → Bool) (xs : List X) (i : ℕ) → i ≤ length xs → IsPartitionPoint (λ y. p y ≡ true) (λ y. p y ≡ false) xs i → prefix_len p xs ≡ i
+pub prefix_parted : {X : Type 0} (p : X → Bool) (xs : List X) (i : ℕ) → i ≤ length xs → IsPartitionPoint (λ y. p y ≡ true) (λ y. p y ≡ false) xs i →
+    prefix_len p xs ≡ i
 prefix_parted p [] i within parted = omega (arith, within)
 prefix_parted p (x ∷ xs) zero within parted = let fails : p x ≡ false = parted.1 0 x (omega arith) (omega arith) in rw fails refl
 prefix_parted p (x ∷ xs) (suc i) within parted =
     let passes : p x ≡ true = parted.0 0 x (omega arith) (omega arith) in
-    let rest : prefix_len p xs ≡ i = prefix_parted p xs i (omega (arith, within)) (λ k d low high. parted.0 (suc k) d (omega arith) (omega arith), λ k d low high. parted.1 (suc k) d (omega arith) (omega (arith, high))) in
+    let rest : prefix_len p xs ≡ i = prefix_parted p xs i (omega (arith, within)) (
+      λ k d low high. parted.0 (suc k) d (omega arith) (omega arith),
+      λ k d low high. parted.1 (suc k) d (omega arith) (omega (arith, high)),
+    ) in
     rw passes (omega (arith, rest))
 
 -- the entry that a name ties with is the one that is found, and the one that goes
@@ -129,7 +134,8 @@ Missing name es = (file_of name es ≡ None) × (without_name name es ≡ es)
 abbrev pub Untied : List ℕ → Entries → Type 0
 Untied name es = (d : List ℕ × ℕ) → rank_of name es < length es → is_eq (to name (get_or es (rank_of name es) d).0) ≡ false
 
-missing : (name : List ℕ) (e : List ℕ × ℕ) (es : Entries) → IsNamed (e ∷ es) → Untied name (e ∷ es) → (rank_of name (e ∷ es) ≡ suc (rank_of name es) → Missing name es) →
+missing : (name : List ℕ) (e : List ℕ × ℕ) (es : Entries) → IsNamed (e ∷ es) → Untied name (e ∷ es) →
+    (rank_of name (e ∷ es) ≡ suc (rank_of name es) → Missing name es) →
     (o : Ordering) → to name e.0 ≡ o → Missing name (e ∷ es)
 missing name e es h none rest Less is = not_after name (e ∷ es) (rw is (after_less name e.0 es is (rest_named e es h).0))
 missing name e es h none rest Equal is =
@@ -147,7 +153,8 @@ pub place_missing : (name : List ℕ) (es : Entries) → IsNamed es → Untied n
 place_missing name [] h none = (refl, refl)
 place_missing name (e ∷ es) h none =
     missing name e es h none
-    (λ next. place_missing name es (rest_named e es h).1 (λ d within. subst (λ r. r < length (e ∷ es) → is_eq (to name (get_or (e ∷ es) r d).0) ≡ false) next (none d) (omega (arith, within))))
+    (λ next. place_missing name es (rest_named e es h).1 (λ d within. subst (λ r. r < length (e ∷ es) → is_eq (to name (get_or (e ∷ es) r d).0) ≡ false) next
+    (none d) (omega (arith, within))))
     (to name e.0) refl
 
 -- a new name goes in at its rank
@@ -173,7 +180,8 @@ pub removed_named : (name : List ℕ) (es : Entries) → IsNamed es → IsNamed 
 removed_named name es named = is_sorted-where_key to (λ other. not (eq_by_cmp to name other)) es named
 
 -- a file has one name less where an entry of it is taken out
-pub links_removed : (es : Entries) (at f : ℕ) (d : List ℕ × ℕ) → at < length es → count_by (λ e. e.1 == f) (remove es at) + cond ((get_or es at d).1 == f) 1 0 ≡ count_by (λ e. e.1 == f) es
+pub links_removed : (es : Entries) (at f : ℕ) (d : List ℕ × ℕ) → at < length es → count_by (λ e. e.1 == f) (remove es at) + cond ((get_or es at d).1 == f) 1 0
+    ≡ count_by (λ e. e.1 == f) es
 links_removed [] at f d within = absurd (omega arith)
 links_removed (e ∷ es) zero f d within = omega (arith, sum_by-cons (λ x. cond (x.1 == f) 1 0) e es)
 links_removed (e ∷ es) (suc k) f d within =

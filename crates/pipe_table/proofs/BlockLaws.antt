@@ -13,9 +13,15 @@ abbrev pub Pipes : Type 0
 Pipes = List (Option (Used StoredPipe))
 
 -- a ring of the same bytes and capacity differs by its block alone
-pub other_block : (old new : Ring) → new.bytes ≡ old.bytes → new.capacity ≡ old.capacity → new ≡ record { bytes = old.bytes; capacity = old.capacity; block = new.block }
+pub other_block : (old new : Ring) → new.bytes ≡ old.bytes → new.capacity ≡ old.capacity → new ≡ record {
+  bytes = old.bytes;
+  capacity = old.capacity;
+  block =
+      new.block;
+}
 other_block old new bytes capacity =
-    ap (λ bs. record { bytes = bs; capacity = new.capacity; block = new.block }) bytes ∙ ap (λ n. record { bytes = old.bytes; capacity = n; block = new.block }) capacity
+    ap (λ bs. record { bytes = bs; capacity = new.capacity; block = new.block }) bytes ∙
+    ap (λ n. record { bytes = old.bytes; capacity = n; block = new.block }) capacity
 
 -- what is written at a number where something stands is there
 pub set_there : (xs : Pipes) (n : ℕ) (x y : Used StoredPipe) → slot xs n ≡ Some x → slot (set xs n (Some y)) n ≡ Some y

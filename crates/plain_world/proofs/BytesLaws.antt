@@ -7,7 +7,8 @@ use Rattle.plain_world.specs.Proved.FileLaws.{WriteSplices, FtruncateResizes, Is
 size : (bytes : List ℕ) (start : ℕ) (new : List ℕ) → length (splice bytes start new) ≡ max (length bytes) (start + length new)
 size bytes start new = grind (arith, common_steps)
 
-inside : (bytes : List ℕ) (start : ℕ) (new : List ℕ) (i : ℕ) → start ≤ i → i < start + length new → get_or (splice bytes start new) i 0 ≡ get_or new (i - start) 0
+inside : (bytes : List ℕ) (start : ℕ) (new : List ℕ) (i : ℕ) → start ≤ i → i < start + length new → get_or (splice bytes start new) i 0 ≡ get_or new
+    (i - start) 0
 inside bytes start new i low high = grind (arith, common_steps)
 
 before : (bytes : List ℕ) (start : ℕ) (new : List ℕ) (i : ℕ) → i < length bytes → i < start → get_or (splice bytes start new) i 0 ≡ get_or bytes i 0
@@ -47,7 +48,8 @@ added_at_end there new = grind (arith, common_steps)
 read_size : (bytes : List ℕ) (start count : ℕ) → length (bytes_at bytes start count) ≡ min count (length bytes - start)
 read_size bytes start count = grind (arith, common_steps)
 
-read_each : (bytes : List ℕ) (start count i : ℕ) → i < length (bytes_at bytes start count) → get_or (bytes_at bytes start count) i 0 ≡ get_or bytes (start + i) 0
+read_each : (bytes : List ℕ) (start count i : ℕ) → i < length (bytes_at bytes start count) → get_or (bytes_at bytes start count) i 0 ≡ get_or bytes
+    (start + i) 0
 read_each bytes start count i below = grind (arith, common_steps)
 
 -- the bytes that a read gives

@@ -46,7 +46,8 @@ use Rattle.posix_model.proofs.SlotLaws.{slot_set_there}
 use Rattle.plain_world.proofs.SlotLemmas.{slot_edited}
 
 pub pread_keeps_world : PreadKeepsWorld
-pread_keeps_world bounds w process fd start count = on_open_has (λ d. changed w [] d.change ≡ w) (opened w process fd) (pread w start count) (λ _. refl) (λ _ _. refl)
+pread_keeps_world bounds w process fd start count = on_open_has (λ d. changed w [] d.change ≡ w) (opened w process fd) (pread w start count) (λ _. refl)
+    (λ _ _. refl)
 
 pub nothing_read : NothingRead
 nothing_read bounds w process fd =
@@ -58,23 +59,27 @@ pub nothing_is_written : NothingWritten
 nothing_is_written bounds w process fd =
     let c = call.Write fd [] in
     on_open_has (λ d. changed w [] d.change ≡ w) (opened w process fd) (write bounds w process c []) (λ _. refl)
-    (λ o _. elim (pipe_at o.description.target) as (λ on. changed w [] (write_to bounds w process c (write_start o.description (length (bytes_of w (file_at o)))) [] o on).change ≡ w) [
+    (λ o _. elim (pipe_at o.description.target) as (λ on. changed w []
+    (write_to bounds w process c (write_start o.description (length (bytes_of w (file_at o)))) [] o on).change ≡ w) [
       | None ↦ refl
       | Some pipe ↦ refl
     ])
 
 pub nothing_pwritten : NothingPwritten
-nothing_pwritten bounds w process fd start = on_open_has (λ d. changed w [] d.change ≡ w) (opened w process fd) (pwrite bounds start []) (λ _. refl) (λ _ _. refl)
+nothing_pwritten bounds w process fd start = on_open_has (λ d. changed w [] d.change ≡ w) (opened w process fd) (pwrite bounds start []) (λ _. refl)
+    (λ _ _. refl)
 
 pub pwrite_keeps_offsets : PwriteKeepsOffsets
 pwrite_keeps_offsets bounds w process fd start bytes =
     let Same : Decided → Type 0 = λ d. (changed w bytes d.change).descriptions ≡ w.descriptions in
     let n = fitting bounds (bytes_before start) bytes in
     on_open_has Same (opened w process fd) (pwrite bounds start bytes) (λ _. refl)
-    (λ o _. if_has Same (eqb (length bytes) 0) (tells (Number 0)) (does (Number n) (on_files.Bytes (file_at o) (bytes_before start) n) on_table.Nothing) (λ _. refl) (λ _. refl))
+    (λ o _. if_has Same (eqb (length bytes) 0) (tells (Number 0)) (does (Number n) (on_files.Bytes (file_at o) (bytes_before start) n) on_table.Nothing)
+    (λ _. refl) (λ _. refl))
 
 pub ftruncate_keeps_offsets : FtruncateKeepsOffsets
-ftruncate_keeps_offsets bounds w process fd len = on_open_has (λ d. (changed w [] d.change).descriptions ≡ w.descriptions) (opened w process fd) (ftruncate bounds len) (λ _. refl) (λ _ _. refl)
+ftruncate_keeps_offsets bounds w process fd len = on_open_has (λ d. (changed w [] d.change).descriptions ≡ w.descriptions) (opened w process fd)
+    (ftruncate bounds len) (λ _. refl) (λ _ _. refl)
 
 pub files_stay : CallsAreSound → FilesStay
 files_stay sound bounds w process c other = files_same w (given (act.Call c)) (decided bounds w process c).change ((sound bounds w process c).files other)
@@ -89,7 +94,8 @@ pub acts_leave_pipes : ActsAreSound → ActsLeavePipes
 acts_leave_pipes sound bounds w actor act d is other = pipes_same w (given act) d.change ((sound bounds w actor act d is).pipes other)
 
 -- the bytes of a regular file that is written
-bytes_set : (files : List (Option File)) (n : ℕ) (bytes : List ℕ) → is_regular_file (slot files n) ≡ true → file_bytes (slot (set files n (Some (file.Regular bytes))) n) ≡ bytes
+bytes_set : (files : List (Option File)) (n : ℕ) (bytes : List ℕ) → is_regular_file (slot files n) ≡ true →
+    file_bytes (slot (set files n (Some (file.Regular bytes))) n) ≡ bytes
 bytes_set [] n bytes there = cc
 bytes_set (f ∷ files) zero bytes there = refl
 bytes_set (f ∷ files) (suc n) bytes there = bytes_set files n bytes there
@@ -103,10 +109,12 @@ not_none (b ∷ bytes) some = eqb-suc-zero (length bytes)
 abbrev Leaves : World → List ℕ → ℕ → ℕ → ℕ → Decided → Type 0
 Leaves w bytes f start n d = d.outcome ≡ Replied (Number n) → bytes_of (changed w bytes d.change) f ≡ splice (bytes_of w f) start (take n bytes)
 
-puts_leave : (w : World) (f start count : ℕ) (moved : TableEdit) (n : ℕ) (bytes : List ℕ) → opens_fifo moved ≡ false → bytes ≢ [] → is_regular_file (slot w.files f) ≡ true →
+puts_leave : (w : World) (f start count : ℕ) (moved : TableEdit) (n : ℕ) (bytes : List ℕ) → opens_fifo moved ≡ false → bytes ≢ [] →
+    is_regular_file (slot w.files f) ≡ true →
     Leaves w bytes f start n (puts bytes f start count moved)
 puts_leave w f start count moved n bytes none some there =
-    subst (λ empty. Leaves w bytes f start n (cond empty (tells (Number 0)) (does (Number count) (on_files.Bytes f start count) moved))) (sym (not_none bytes some))
+    subst (λ empty. Leaves w bytes f start n (cond empty (tells (Number 0)) (does (Number count) (on_files.Bytes f start count) moved)))
+    (sym (not_none bytes some))
     (λ told.
     let same : count ≡ n = cc in
     ap (λ fs. file_bytes (slot fs f)) (files_after_table (with_files w bytes (on_files.Bytes f start count)) moved none).files ∙
@@ -124,16 +132,19 @@ pub write_puts : WritePuts
 write_puts bounds w process fd bytes o f n is some told =
     let start : ℕ → ℕ = λ g. write_start o.description (length (bytes_of w g)) in
     let count = fitting bounds (start f) bytes in
-    let Puts : ℕ → Type 0 = λ g. let count = fitting bounds (start g) bytes in Leaves w bytes f (start f) n (puts bytes g (start g) count (on_table.Describe o.number (on_description.Offset (start g + count)))) in
+    let Puts : ℕ → Type 0 = λ g. let count = fitting bounds (start g) bytes in
+    Leaves w bytes f (start f) n (puts bytes g (start g) count (on_table.Describe o.number (on_description.Offset (start g + count)))) in
     let c = call.Write fd bytes in
     let Ends : Option ℕ → Type 0 = λ on. Leaves w bytes f (start f) n (write_to bounds w process c (start (file_at o)) bytes o on) in
     opened_has (Leaves w bytes f (start f) n) (opened w process fd) o (write bounds w process c bytes) is.opened_is (λ error refused. cc)
     (λ _. subst Ends (sym (no_pipe w process fd o f is))
-    (subst Puts (sym (file_is w process fd o f is)) (puts_leave w f (start f) count (on_table.Describe o.number (on_description.Offset (start f + count))) n bytes refl some is.there))) told
+    (subst Puts (sym (file_is w process fd o f is)) (puts_leave w f (start f) count (on_table.Describe o.number (on_description.Offset (start f + count))) n
+    bytes refl some is.there))) told
 
 -- what a decided write of some bytes that tells a number leaves of the description of its descriptor
 abbrev LeavesAfter : World → List ℕ → OpenDescriptor → ℕ → ℕ → Decided → Type 0
-LeavesAfter w bytes o start n d = d.outcome ≡ Replied (Number n) → slot (changed w bytes d.change).descriptions o.number ≡ Some (at_offset (start + n) o.description)
+LeavesAfter w bytes o start n d = d.outcome ≡ Replied (Number n) → slot (changed w bytes d.change).descriptions o.number ≡ Some
+    (at_offset (start + n) o.description)
 
 -- the description of an open descriptor, with another offset
 offset_edited : (w : World) (o : OpenDescriptor) (to : ℕ) → slot w.descriptions o.number ≡ Some o.description →
@@ -143,18 +154,21 @@ offset_edited w o to there = slot_edited w.descriptions o.number (at_offset to) 
 puts_leave_after : (w : World) (o : OpenDescriptor) (f start count n : ℕ) (bytes : List ℕ) → slot w.descriptions o.number ≡ Some o.description → bytes ≢ [] →
     LeavesAfter w bytes o start n (puts bytes f start count (on_table.Describe o.number (on_description.Offset (start + count))))
 puts_leave_after w o f start count n bytes there some =
-    subst (λ empty. LeavesAfter w bytes o start n (cond empty (tells (Number 0)) (does (Number count) (on_files.Bytes f start count) (on_table.Describe o.number (on_description.Offset (start + count)))))) (sym (not_none bytes some))
+    subst (λ empty. LeavesAfter w bytes o start n (cond empty (tells (Number 0))
+    (does (Number count) (on_files.Bytes f start count) (on_table.Describe o.number (on_description.Offset (start + count)))))) (sym (not_none bytes some))
     (λ told. let same : count ≡ n = cc in offset_edited w o (start + count) there ∙ ap (λ k. Some (at_offset (start + k) o.description)) same)
 
 pub write_moves : WriteMoves
 write_moves bounds w process fd bytes o f n is some told =
     let start : ℕ → ℕ = λ g. write_start o.description (length (bytes_of w g)) in
-    let Puts : ℕ → Type 0 = λ g. let count = fitting bounds (start g) bytes in LeavesAfter w bytes o (start f) n (puts bytes g (start g) count (on_table.Describe o.number (on_description.Offset (start g + count)))) in
+    let Puts : ℕ → Type 0 = λ g. let count = fitting bounds (start g) bytes in
+    LeavesAfter w bytes o (start f) n (puts bytes g (start g) count (on_table.Describe o.number (on_description.Offset (start g + count)))) in
     let c = call.Write fd bytes in
     let Ends : Option ℕ → Type 0 = λ on. LeavesAfter w bytes o (start f) n (write_to bounds w process c (start (file_at o)) bytes o on) in
     opened_has (LeavesAfter w bytes o (start f) n) (opened w process fd) o (write bounds w process c bytes) is.opened_is (λ error refused. cc)
     (λ _. subst Ends (sym (no_pipe w process fd o f is))
-    (subst Puts (sym (file_is w process fd o f is)) (puts_leave_after w o f (start f) (fitting bounds (start f) bytes) n bytes (opened_stands w process fd o is.opened_is).description_is some))) told
+    (subst Puts (sym (file_is w process fd o f is)) (puts_leave_after w o f (start f) (fitting bounds (start f) bytes) n bytes
+    (opened_stands w process fd o is.opened_is).description_is some))) told
 
 -- of three faults, of which none is due, the last one is not
 last_unmet : (a b c : Bool) (x y z : Errno) → first_fault ((a, x) ∷ (b, y) ∷ (c, z) ∷ []) ≡ None → c ≡ false
@@ -171,32 +185,38 @@ fit_or_reach bounds start bytes some below = by_room (leb (length bytes) (bounds
     within : leb bounds.file_size start ≡ false
     within = subst (λ empty. (not empty && leb bounds.file_size start) ≡ false) (not_none bytes some) below
 
-    by_room : (b : Bool) → leb (length bytes) (bounds.file_size - start) ≡ b → (fitting bounds start bytes ≡ length bytes) ⊎ (start + fitting bounds start bytes ≡ bounds.file_size)
+    by_room : (b : Bool) → leb (length bytes) (bounds.file_size - start) ≡ b → (fitting bounds start bytes ≡ length bytes) ⊎
+        (start + fitting bounds start bytes ≡ bounds.file_size)
     by_room true fits = inl (grind (arith, nat_tests))
     by_room false fits = inr (grind (arith, nat_tests, within))
 
 -- a decided write of some bytes tells how many are put
-puts_tell : (bytes : List ℕ) (f start count : ℕ) (moved : TableEdit) (n : ℕ) → bytes ≢ [] → (puts bytes f start count moved).outcome ≡ Replied (Number n) → count ≡ n
+puts_tell : (bytes : List ℕ) (f start count : ℕ) (moved : TableEdit) (n : ℕ) → bytes ≢ [] → (puts bytes f start count moved).outcome ≡ Replied (Number n) →
+    count ≡ n
 puts_tell bytes f start count moved n some =
-    subst (λ empty. (cond empty (tells (Number 0)) (does (Number count) (on_files.Bytes f start count) moved)).outcome ≡ Replied (Number n) → count ≡ n) (sym (not_none bytes some)) (λ told. cc)
+    subst (λ empty. (cond empty (tells (Number 0)) (does (Number count) (on_files.Bytes f start count) moved)).outcome ≡ Replied (Number n) → count ≡ n)
+    (sym (not_none bytes some)) (λ told. cc)
 
 pub write_takes_all : WriteTakesAll
 write_takes_all bounds w process fd bytes o f n is some told =
     let start : ℕ → ℕ = λ g. write_start o.description (length (bytes_of w g)) in
     let All : Decided → Type 0 = λ d. d.outcome ≡ Replied (Number n) → (n ≡ length bytes) ⊎ (start f + n ≡ bounds.file_size) in
     let Ends : Option ℕ → Type 0 = λ on. All (write_to bounds w process (call.Write fd bytes) (start (file_at o)) bytes o on) in
-    let Puts : ℕ → Type 0 = λ g. let count = fitting bounds (start g) bytes in All (puts bytes g (start g) count (on_table.Describe o.number (on_description.Offset (start g + count)))) in
+    let Puts : ℕ → Type 0 = λ g. let count = fitting bounds (start g) bytes in
+    All (puts bytes g (start g) count (on_table.Describe o.number (on_description.Offset (start g + count)))) in
     let at = file_is w process fd o f is in
     let count = fitting bounds (start f) bytes in
     opened_has All (opened w process fd) o (write bounds w process (call.Write fd bytes) bytes) is.opened_is (λ error refused. cc)
     (λ free.
     let met : (is_regular o && is_past_limit bounds (start (file_at o)) bytes) ≡ false = last_unmet _ _ _ EBADF EINVAL EFBIG free in
-    let past : is_past_limit bounds (start (file_at o)) bytes ≡ false = ap (λ t. is_some (regular_file t) && is_past_limit bounds (start (file_at o)) bytes) (sym is.target_is) ∙ met in
+    let past : is_past_limit bounds (start (file_at o)) bytes ≡ false = ap (λ t. is_some (regular_file t) && is_past_limit bounds (start (file_at o)) bytes)
+    (sym is.target_is) ∙ met in
     let below : is_past_limit bounds (start f) bytes ≡ false = subst (λ g. is_past_limit bounds (start g) bytes ≡ false) at past in
     subst Ends (sym (no_pipe w process fd o f is))
     (subst Puts (sym at)
     (λ told.
-    subst (λ k. (k ≡ length bytes) ⊎ (start f + k ≡ bounds.file_size)) (puts_tell bytes f (start f) count (on_table.Describe o.number (on_description.Offset (start f + count))) n some told)
+    subst (λ k. (k ≡ length bytes) ⊎ (start f + k ≡ bounds.file_size))
+    (puts_tell bytes f (start f) count (on_table.Describe o.number (on_description.Offset (start f + count))) n some told)
     (fit_or_reach bounds (start f) bytes some below)))) told
 
 pub pwrite_puts : PwritePuts
@@ -219,7 +239,8 @@ pub ftruncate_leaves_resized : FtruncateLeavesResized
 ftruncate_leaves_resized bounds w process fd len o f is told =
     let Resizes : Decided → Type 0 = λ d. d.outcome ≡ Replied Done → bytes_of (changed w [] d.change) f ≡ resized (bytes_of w f) (bytes_before len) in
     let at = file_is w process fd o f is in
-    let there : Resizes (does Done (on_files.Resize f (bytes_before len)) on_table.Nothing) = λ _. bytes_set w.files f (resized (bytes_of w f) (bytes_before len)) is.there in
+    let there : Resizes (does Done (on_files.Resize f (bytes_before len)) on_table.Nothing) =
+    λ _. bytes_set w.files f (resized (bytes_of w f) (bytes_before len)) is.there in
     opened_has Resizes (opened w process fd) o (ftruncate bounds len) is.opened_is (λ error refused. cc)
     (λ _. subst (λ g. Resizes (does Done (on_files.Resize g (bytes_before len)) on_table.Nothing)) (sym at) there) told
 
@@ -233,22 +254,26 @@ opened_appending w process fd o append h =
     ap (opened_description o.fd o.number) (slot_set_there w.descriptions o.number o.description (Some (with_append o append).description) at.description_is))
 
 -- a pwrite opens no end of a FIFO
-opens_none : (bounds : Bounds) (w : World) (process : ℕ) (fd start : ℤ) (bytes : List ℕ) → opens_fifo (decided bounds w process (call.Pwrite fd start bytes)).change.table ≡ false
+opens_none : (bounds : Bounds) (w : World) (process : ℕ) (fd start : ℤ) (bytes : List ℕ) →
+    opens_fifo (decided bounds w process (call.Pwrite fd start bytes)).change.table ≡ false
 opens_none bounds w process fd start bytes =
     let None_opened : Decided → Type 0 = λ d. opens_fifo d.change.table ≡ false in
     let n = fitting bounds (bytes_before start) bytes in
     on_open_has None_opened (opened w process fd) (pwrite bounds start bytes) (λ _. refl)
-    (λ o _. if_has None_opened (eqb (length bytes) 0) (tells (Number 0)) (does (Number n) (on_files.Bytes (file_at o) (bytes_before start) n) on_table.Nothing) (λ _. refl) (λ _. refl))
+    (λ o _. if_has None_opened (eqb (length bytes) 0) (tells (Number 0)) (does (Number n) (on_files.Bytes (file_at o) (bytes_before start) n) on_table.Nothing)
+    (λ _. refl) (λ _. refl))
 
 pub pwrite_same_under_append : PwriteSameUnderAppend
 pwrite_same_under_append bounds w process fd start bytes o append h =
     let v = with_appending w o append in
     let c = call.Pwrite fd start bytes in
     let page = pwrite bounds start bytes in
-    let same : decided bounds v process c ≡ decided bounds w process c = ap (λ x. on_open x page) (opened_appending w process fd o append h) ∙ sym (ap (λ x. on_open x page) h) in
+    let same : decided bounds v process c ≡ decided bounds w process c = ap (λ x. on_open x page) (opened_appending w process fd o append h) ∙
+    sym (ap (λ x. on_open x page) h) in
     record {
       outcome = ap (λ d. d.outcome) same;
-      files = ap (λ d. (changed v bytes d.change).files) same ∙ same_files w v bytes (decided bounds w process c).change (opens_none bounds w process fd start bytes) refl;
+      files = ap (λ d. (changed v bytes d.change).files) same ∙ same_files w v bytes (decided bounds w process c).change
+          (opens_none bounds w process fd start bytes) refl;
     }
 
 -- bytes that are told are those that were read
@@ -257,7 +282,8 @@ told_read x got told = cc
 
 -- what a decided read that gives these bytes leaves of the description of its descriptor
 abbrev Moved : World → OpenDescriptor → List ℕ → Decided → Type 0
-Moved w o got d = d.outcome ≡ Replied (Data got) → slot (changed w [] d.change).descriptions o.number ≡ Some (at_offset (o.description.offset + length got) o.description)
+Moved w o got d = d.outcome ≡ Replied (Data got) → slot (changed w [] d.change).descriptions o.number ≡ Some
+    (at_offset (o.description.offset + length got) o.description)
 
 none_long : (x : List ℕ) → eqb (length x) 0 ≡ true → length x ≡ 0
 none_long x h = grind (arith, nat_tests)
@@ -265,7 +291,8 @@ none_long x h = grind (arith, nat_tests)
 gives_moved : (w : World) (o : OpenDescriptor) (x got : List ℕ) → slot w.descriptions o.number ≡ Some o.description → Moved w o got (gives o x)
 gives_moved w o x got there =
     let start = o.description.offset in
-    if_has (Moved w o got) (eqb (length x) 0) (tells (Data x)) (does (Data x) on_files.Nothing (on_table.Describe o.number (on_description.Offset (start + length x))))
+    if_has (Moved w o got) (eqb (length x) 0) (tells (Data x))
+    (does (Data x) on_files.Nothing (on_table.Describe o.number (on_description.Offset (start + length x))))
     (λ none told.
     let zero_long : length got ≡ 0 = ap length (sym (told_read x got told)) ∙ none_long x none in
     let stays : start ≡ start + length got = omega (arith, zero_long) in
@@ -291,12 +318,14 @@ abbrev Given : List ℕ → ℕ → ℕ → List ℕ → Decided → Type 0
 Given bytes start count got d = d.outcome ≡ Replied (Data got) → IsRead bytes start count got
 
 given_read : (bytes : List ℕ) (start count : ℕ) (got : List ℕ) → Replied (Data (bytes_at bytes start count)) ≡ Replied (Data got) → IsRead bytes start count got
-given_read bytes start count got told = subst (λ (x : List ℕ). IsRead bytes start count x) (told_read (bytes_at bytes start count) got told) (is_read bytes start count)
+given_read bytes start count got told = subst (λ (x : List ℕ). IsRead bytes start count x) (told_read (bytes_at bytes start count) got told)
+    (is_read bytes start count)
 
 gives_read : (o : OpenDescriptor) (bytes : List ℕ) (start count : ℕ) (got : List ℕ) → Given bytes start count got (gives o (bytes_at bytes start count))
 gives_read o bytes start count got =
     let x = bytes_at bytes start count in
-    if_has (Given bytes start count got) (eqb (length x) 0) (tells (Data x)) (does (Data x) on_files.Nothing (on_table.Describe o.number (on_description.Offset (o.description.offset + length x))))
+    if_has (Given bytes start count got) (eqb (length x) 0) (tells (Data x))
+    (does (Data x) on_files.Nothing (on_table.Describe o.number (on_description.Offset (o.description.offset + length x))))
     (λ _. given_read bytes start count got) (λ _. given_read bytes start count got)
 
 pub read_gives : ReadGives
@@ -305,13 +334,15 @@ read_gives bounds w process fd count o f got is told =
     let c = call.Read fd count in
     opened_has (Given (bytes_of w f) start count got) (opened w process fd) o (read w process c count) is.opened_is (λ error refused. cc)
     (λ _. subst (λ on. Given (bytes_of w f) start count got (read_from w process c count o on)) (sym (no_pipe w process fd o f is))
-    (subst (λ g. Given (bytes_of w f) start count got (gives o (bytes_at (bytes_of w g) start count))) (sym (file_is w process fd o f is)) (gives_read o (bytes_of w f) start count got))) told
+    (subst (λ g. Given (bytes_of w f) start count got (gives o (bytes_at (bytes_of w g) start count))) (sym (file_is w process fd o f is))
+    (gives_read o (bytes_of w f) start count got))) told
 
 pub pread_gives : PreadGives
 pread_gives bounds w process fd start count o f got is told =
     let from = bytes_before start in
     opened_has (Given (bytes_of w f) from count got) (opened w process fd) o (pread w start count) is.opened_is (λ error refused. cc)
-    (λ _. subst (λ g. Given (bytes_of w f) from count got (tells (Data (bytes_at (bytes_of w g) from count)))) (sym (file_is w process fd o f is)) (given_read (bytes_of w f) from count got)) told
+    (λ _. subst (λ g. Given (bytes_of w f) from count got (tells (Data (bytes_at (bytes_of w g) from count)))) (sym (file_is w process fd o f is))
+    (given_read (bytes_of w f) from count got)) told
 
 -- a fault stays one with another before it
 still_fault : (b : Bool) (error : Errno) (rest : Option Errno) → is_some rest ≡ true → is_some (cond b (Some error) rest) ≡ true
@@ -344,16 +375,19 @@ seek_tells bounds w process fd offset o f n is = record {
 pub seek_moves : SeekMoves
 seek_moves bounds w process fd offset from o n is told =
     let to = nat_abs (pos (base_of w o from) +ℤ offset) in
-    opened_has (λ d. d.outcome ≡ Replied (Number n) → slot (changed w [] d.change).descriptions o.number ≡ Some (at_offset n o.description)) (opened w process fd) o (lseek w offset from) is
+    opened_has (λ d. d.outcome ≡ Replied (Number n) → slot (changed w [] d.change).descriptions o.number ≡ Some (at_offset n o.description))
+    (opened w process fd) o (lseek w offset from) is
     (λ error refused. cc)
-    (λ _ told. let number : to ≡ n = cc in offset_edited w o to (opened_stands w process fd o is).description_is ∙ ap (λ (k : ℕ). Some (at_offset k o.description)) number) told
+    (λ _ told. let number : to ≡ n = cc in offset_edited w o to (opened_stands w process fd o is).description_is ∙
+    ap (λ (k : ℕ). Some (at_offset k o.description)) number) told
 
 -- what a decided write puts is not put into another file
 puts_apart : (w : World) (f start count n : ℕ) (bytes : List ℕ) (moved : TableEdit) → opens_fifo moved ≡ false → n ≢ f →
     slot (changed w bytes (puts bytes f start count moved).change).files n ≡ slot w.files n
 puts_apart w f start count n bytes moved none other =
     let new = splice (bytes_of w f) start (take count bytes) in
-    if_has (λ d. slot (changed w bytes d.change).files n ≡ slot w.files n) (eqb (length bytes) 0) (tells (Number 0)) (does (Number count) (on_files.Bytes f start count) moved) (λ _. refl)
+    if_has (λ d. slot (changed w bytes d.change).files n ≡ slot w.files n) (eqb (length bytes) 0) (tells (Number 0))
+    (does (Number count) (on_files.Bytes f start count) moved) (λ _. refl)
     (λ _. ap (λ fs. slot fs n) (files_after_table (with_files w bytes (on_files.Bytes f start count)) moved none).files ∙
     get_or-set_other w.files f n (Some (file.Regular new)) None other)
 
@@ -396,10 +430,14 @@ access_is_needed bounds w process fd o is =
     let Writes : Decided → Type 0 = λ d. IsNoError d.outcome → writes ≡ true in
     let here = opened w process fd in
     record {
-      read = λ count. opened_has Reads here o (read w process (call.Read fd count) count) is (λ error no_error. absurd (no_error error refl)) (λ free _. not_due reads EBADF _ free);
-      pread = λ start count. opened_has Reads here o (pread w start count) is (λ error no_error. absurd (no_error error refl)) (λ free _. not_due reads EBADF _ free);
-      write = λ bytes. opened_has Writes here o (write bounds w process (call.Write fd bytes) bytes) is (λ error no_error. absurd (no_error error refl)) (λ free _. not_due writes EBADF _ free);
-      pwrite = λ start bytes. opened_has Writes here o (pwrite bounds start bytes) is (λ error no_error. absurd (no_error error refl)) (λ free _. not_due writes EBADF _ free);
+      read = λ count. opened_has Reads here o (read w process (call.Read fd count) count) is (λ error no_error. absurd (no_error error refl))
+          (λ free _. not_due reads EBADF _ free);
+      pread = λ start count. opened_has Reads here o (pread w start count) is (λ error no_error. absurd (no_error error refl))
+          (λ free _. not_due reads EBADF _ free);
+      write = λ bytes. opened_has Writes here o (write bounds w process (call.Write fd bytes) bytes) is (λ error no_error. absurd (no_error error refl))
+          (λ free _. not_due writes EBADF _ free);
+      pwrite = λ start bytes. opened_has Writes here o (pwrite bounds start bytes) is (λ error no_error. absurd (no_error error refl))
+          (λ free _. not_due writes EBADF _ free);
       ftruncate = λ len.
           opened_has Writes here o (ftruncate bounds len) is (λ error no_error. absurd (no_error error refl))
           (λ free _. not_due writes EINVAL _ (rest_not_due _ EINVAL _ (rest_not_due _ EINVAL _ free)));

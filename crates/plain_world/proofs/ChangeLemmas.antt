@@ -18,7 +18,8 @@ use Rattle.posix_model.proofs.SlotLaws.{slot_pushed}
 use Rattle.plain_world.proofs.SlotLemmas.{other_slot}
 
 -- an edit of files leaves descriptions and processes
-pub files_leave : (w : World) (bytes : List ℕ) (e : FileEdit) → ((with_files w bytes e).descriptions ≡ w.descriptions) × ((with_files w bytes e).processes ≡ w.processes)
+pub files_leave : (w : World) (bytes : List ℕ) (e : FileEdit) → ((with_files w bytes e).descriptions ≡ w.descriptions) ×
+    ((with_files w bytes e).processes ≡ w.processes)
 files_leave w bytes on_files.Nothing = (refl, refl)
 files_leave w bytes other = (refl, refl)
 
@@ -77,7 +78,8 @@ pipes_after_table w (on_table.OpenEnd process fd file description) made opened =
 pipes_after_table w other made opened = refl
 
 -- so a change that does neither has the pipes that its edit of files leaves
-pub pipes_after : (w : World) (bytes : List ℕ) (c : Change) → makes_pipe c.table ≡ false → opens_fifo c.table ≡ false → (changed w bytes c).pipes ≡ (with_files w bytes c.files).pipes
+pub pipes_after : (w : World) (bytes : List ℕ) (c : Change) → makes_pipe c.table ≡ false → opens_fifo c.table ≡ false →
+    (changed w bytes c).pipes ≡ (with_files w bytes c.files).pipes
 pipes_after w bytes c made opened =
     let v = with_files w bytes c.files in
     pipes_after_table (with_processes v c.process) c.table made opened ∙ pipes_after_process v c.process
@@ -101,7 +103,8 @@ same_edit w v bytes (on_files.Put pipe source count) h = h
 same_edit w v bytes (on_files.Take pipe count) h = h
 
 -- so a change that opens no end of a FIFO does the same to the same files
-pub same_files : (w v : World) (bytes : List ℕ) (c : Change) → opens_fifo c.table ≡ false → v.files ≡ w.files → (changed v bytes c).files ≡ (changed w bytes c).files
+pub same_files : (w v : World) (bytes : List ℕ) (c : Change) → opens_fifo c.table ≡ false → v.files ≡ w.files →
+    (changed v bytes c).files ≡ (changed w bytes c).files
 same_files w v bytes c none h = (files_after v bytes c none).files ∙ (same_edit w v bytes c.files h ∙ sym (files_after w bytes c none).files)
 
 -- what is below the end of a list is below the end of a longer one
@@ -111,7 +114,8 @@ longer (y ∷ xs) x zero below = omega arith
 longer (y ∷ xs) x (suc n) below = let more = longer xs x n (omega arith) in omega arith
 
 -- an edit of descriptors leaves a description that was there, but for the one whose offset it moves
-other_description : (w : World) (e : TableEdit) (n : ℕ) → n < length w.descriptions → described_in e ≢ Some n → slot (with_table w e).descriptions n ≡ slot w.descriptions n
+other_description : (w : World) (e : TableEdit) (n : ℕ) → n < length w.descriptions → described_in e ≢ Some n →
+    slot (with_table w e).descriptions n ≡ slot w.descriptions n
 other_description w on_table.Nothing n below other = refl
 other_description w (on_table.Describe number edit) n below other = other_slot w.descriptions number n (described edit) (λ same. other (ap Some (sym same)))
 other_description w (on_table.Open process fd d) n below other = slot_pushed w.descriptions (Some d) n below
@@ -122,7 +126,8 @@ other_description w (on_table.OpenPair process reading writing) n below other =
 other_description w (on_table.OpenEnd process fd file d) n below other = slot_pushed w.descriptions (Some d) n below
 other_description w (on_table.Entry process fd entry) n below other = refl
 
-pub offset_stays : (w : World) (bytes : List ℕ) (c : Change) (n : ℕ) → n < length w.descriptions → described_in c.table ≢ Some n → slot (changed w bytes c).descriptions n ≡ slot w.descriptions n
+pub offset_stays : (w : World) (bytes : List ℕ) (c : Change) (n : ℕ) → n < length w.descriptions → described_in c.table ≢ Some n →
+    slot (changed w bytes c).descriptions n ≡ slot w.descriptions n
 offset_stays w bytes c n below other =
     let v = with_processes (with_files w bytes c.files) c.process in
     let same = same_descriptions w bytes c in

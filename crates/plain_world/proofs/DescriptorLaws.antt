@@ -59,7 +59,8 @@ close_closes bounds w p fd told =
     (λ o is _. closed_at w p fd o (opened_stands w p fd o is)) told
 
 -- what is decided of a descriptor that is not open
-refused_as_bad : (w : World) (p : ℕ) (fd named : ℤ) (page : OpenDescriptor → Page) → opened w p fd ≡ None → Some named ≡ Some fd → (on_open (opened w p named) page).outcome ≡ Replied (Error EBADF)
+refused_as_bad : (w : World) (p : ℕ) (fd named : ℤ) (page : OpenDescriptor → Page) → opened w p fd ≡ None → Some named ≡ Some fd →
+    (on_open (opened w p named) page).outcome ≡ Replied (Error EBADF)
 refused_as_bad w p fd named page free is =
     let same : named ≡ fd = cc in
     ap (λ o. (on_open o page).outcome) (ap (opened w p) same ∙ free)
@@ -93,7 +94,8 @@ other_process w (on_table.OpenPair p reading writing) q other =
     let last = with_entry writing (Some (length (w.descriptions ++ Some (end_of (length w.pipes) mode.Read) ∷ []))) in
     let apart : q ≢ p = λ same. other (ap Some (sym same)) in
     other_slot (edited p first w.processes) p q last apart ∙ other_slot w.processes p q first apart
-other_process w (on_table.OpenEnd p fd file d) q other = other_slot w.processes p q (with_entry fd (Some (length w.descriptions))) (λ same. other (ap Some (sym same)))
+other_process w (on_table.OpenEnd p fd file d) q other = other_slot w.processes p q (with_entry fd (Some (length w.descriptions)))
+    (λ same. other (ap Some (sym same)))
 other_process w (on_table.Entry p fd entry) q other = other_slot w.processes p q (with_entry fd entry) (λ same. other (ap Some (sym same)))
 
 -- the process that an edit attaches, lets wait or go on, or ends
@@ -106,7 +108,8 @@ turned_process (on_process.Exit process) = Some process
 turned_process other = None
 
 -- it leaves each other process that is there
-other_turned : (w : World) (e : ProcessEdit) (q : ℕ) → q < length w.processes → turned_process e ≢ Some q → slot (with_processes w e).processes q ≡ slot w.processes q
+other_turned : (w : World) (e : ProcessEdit) (q : ℕ) → q < length w.processes → turned_process e ≢ Some q →
+    slot (with_processes w e).processes q ≡ slot w.processes q
 other_turned w on_process.Nothing q below other = refl
 other_turned w (on_process.Add table attached) q below other = slot_pushed w.processes (Some (process_with table attached)) q below
 other_turned w (on_process.Attach p) q below other = other_slot w.processes p q with_connection (λ same. other (ap Some (sym same)))
@@ -116,7 +119,8 @@ other_turned w (on_process.Unpark p) q below other = other_slot w.processes p q 
 other_turned w (on_process.Exit p) q below other = get_or-set_other w.processes p q None None (λ same. other (ap Some (sym same)))
 other_turned w on_process.Close q below other = refl
 
-process_stays : (w : World) (bytes : List ℕ) (c : Change) (q : ℕ) → q < length w.processes → turned_process c.process ≢ Some q → edited_process c.table ≢ Some q →
+process_stays : (w : World) (bytes : List ℕ) (c : Change) (q : ℕ) → q < length w.processes → turned_process c.process ≢ Some q →
+    edited_process c.table ≢ Some q →
     slot (changed w bytes c).processes q ≡ slot w.processes q
 process_stays w bytes c q below turned other =
     let v = with_files w bytes c.files in
@@ -165,22 +169,28 @@ own_first p c o (Ends reply edit) = own_nothing p reply edit
 own_first p c o (Waits moved edit) =
     let tells_it = does (Number moved) edit on_table.Nothing in
     let parked = waiting c o.fd moved 0 in
-    own_if p o.description.nonblock (instead moved edit) (parks p parked tells_it) (own_if p (eqb moved 0) (refused EAGAIN) tells_it (own_refused p EAGAIN) (own_nothing p (Number moved) edit))
+    own_if p o.description.nonblock (instead moved edit) (parks p parked tells_it) (own_if p (eqb moved 0) (refused EAGAIN) tells_it (own_refused p EAGAIN)
+    (own_nothing p (Number moved) edit))
     (own_parks p parked tells_it (own_nothing p (Number moved) edit))
 
 own_read : (w : World) (p : ℕ) (c : Call) (count : ℕ) (o : OpenDescriptor) (on : Option ℕ) → Own p (read_from w p c count o on)
 own_read w p c count o None =
     let got = bytes_at (bytes_of w (file_at o)) o.description.offset count in
-    own_if p (eqb (length got) 0) (tells (Data got)) (does (Data got) on_files.Nothing (on_table.Describe o.number (on_description.Offset (o.description.offset + length got)))) (own_nothing p (Data got) on_files.Nothing)
+    own_if p (eqb (length got) 0) (tells (Data got))
+    (does (Data got) on_files.Nothing (on_table.Describe o.number (on_description.Offset (o.description.offset + length got))))
+    (own_nothing p (Data got) on_files.Nothing)
     (own_described p (Data got) on_files.Nothing o.number (on_description.Offset (o.description.offset + length got)))
 own_read w p c count o (Some pipe) =
-    own_if p (eqb count 0) (tells (Data [])) (first_try p c o (read_try w pipe count)) (own_nothing p (Data []) on_files.Nothing) (own_first p c o (read_try w pipe count))
+    own_if p (eqb count 0) (tells (Data [])) (first_try p c o (read_try w pipe count)) (own_nothing p (Data []) on_files.Nothing)
+    (own_first p c o (read_try w pipe count))
 
-own_write : (bounds : Bounds) (w : World) (p : ℕ) (c : Call) (start : ℕ) (bytes : List ℕ) (o : OpenDescriptor) (on : Option ℕ) → Own p (write_to bounds w p c start bytes o on)
+own_write : (bounds : Bounds) (w : World) (p : ℕ) (c : Call) (start : ℕ) (bytes : List ℕ) (o : OpenDescriptor) (on : Option ℕ) →
+    Own p (write_to bounds w p c start bytes o on)
 own_write bounds w p c start bytes o None =
     let n = fitting bounds start bytes in
     let put = on_files.Bytes (file_at o) start n in
-    own_if p (eqb (length bytes) 0) (tells (Number 0)) (does (Number n) put (on_table.Describe o.number (on_description.Offset (start + n)))) (own_nothing p (Number 0) on_files.Nothing)
+    own_if p (eqb (length bytes) 0) (tells (Number 0)) (does (Number n) put (on_table.Describe o.number (on_description.Offset (start + n))))
+    (own_nothing p (Number 0) on_files.Nothing)
     (own_described p (Number n) put o.number (on_description.Offset (start + n)))
 own_write bounds w p c start bytes o (Some pipe) =
     let x = write_try bounds w pipe source.Act (length bytes) 0 in
@@ -194,7 +204,8 @@ open_there_own w p name flags n None = record { turned = λ q h. cc; own = λ q 
 open_there_own w p name flags n (Some fifo) =
     let opens = opens_end w p flags n fifo in
     let parked = waiting (call.Open name flags) (free_descriptor w p) 0 (opposite_openings (mode_of flags) (Some fifo)) in
-    own_if p (has flags flag.nonblocking || is_met w (mode_of flags) fifo) opens (parks p parked opens) (own_end w p flags n fifo) (own_parks p parked opens (own_end w p flags n fifo))
+    own_if p (has flags flag.nonblocking || is_met w (mode_of flags) fifo) opens (parks p parked opens) (own_end w p flags n fifo)
+    (own_parks p parked opens (own_end w p flags n fifo))
 
 open_own : (w : World) (p : ℕ) (name : List ℕ) (flags : OpenFlags) (found : Option ℕ) → Own p (open_found w p name flags found)
 open_own w p name flags None = record { turned = λ q h. cc; own = λ q h. cc }

@@ -43,15 +43,18 @@ module _ (w : World) (p n : ℕ) (from : ℤ) (o : OpenDescriptor) (is : opened 
     others : (other : ℤ) → other ≢ pos n → opened v p other ≡ opened w p other
     others (pos m) apart =
         let as_was : slot (table_of (slot v.processes p)) m ≡ slot (table_of (slot w.processes p)) m =
-        ap (λ t. slot t m) table_is ∙ (get_or-set_other process.table n m (Some o.number) None (λ same. apart (ap pos same)) ∙ ap (λ x. slot (table_of x) m) (sym here)) in
+        ap (λ t. slot t m) table_is ∙ (get_or-set_other process.table n m (Some o.number) None (λ same. apart (ap pos same)) ∙
+        ap (λ x. slot (table_of x) m) (sym here)) in
         ap (opened_number v m) as_was ∙ same_descriptions m (slot (table_of (slot w.processes p)) m)
     others (negsuc m) apart = refl
 
     leads : n < length process.table → number_of v p (pos n) ≡ number_of w p from
     leads below =
-        let entry : slot (table_of (slot v.processes p)) n ≡ Some o.number = ap (λ t. slot t n) table_is ∙ get_or-set_same process.table n (Some o.number) None below in
+        let entry : slot (table_of (slot v.processes p)) n ≡ Some o.number = ap (λ t. slot t n) table_is ∙
+        get_or-set_same process.table n (Some o.number) None below in
         let stands : opened v p (pos n) ≡ opened_description n o.number (slot w.descriptions o.number) = ap (opened_number v n) entry in
-        let told : number_of v p (pos n) ≡ Some o.number = ap (option_map (λ x. x.number)) (stands ∙ ap (opened_description n o.number) (opened_stands w p from o is).description_is) in
+        let told : number_of v p (pos n) ≡ Some o.number =
+        ap (option_map (λ x. x.number)) (stands ∙ ap (opened_description n o.number) (opened_stands w p from o is).description_is) in
         told ∙ sym (ap (option_map (λ x. x.number)) is)
 
   pub set_leads : ((process : Process) → slot w.processes p ≡ Some process → n < length process.table) → Leads w v p n from
@@ -72,18 +75,21 @@ same_leads w p from o is = record {
 }
 
 -- a free descriptor that is told
-told_free : (low : Option ℕ) (told : ℕ) → first_fault ((is_none low, EMFILE) ∷ []) ≡ None → Replied (Number (unwrap_or low 0)) ≡ Replied (Number told) → low ≡ Some told
+told_free : (low : Option ℕ) (told : ℕ) → first_fault ((is_none low, EMFILE) ∷ []) ≡ None → Replied (Number (unwrap_or low 0)) ≡ Replied (Number told) →
+    low ≡ Some told
 told_free None told free h = cc
 told_free (Some fd) told free h = let same : fd ≡ told = cc in ap (λ (k : ℕ). Some k) same
 
 pub dup_leads : DupLeads
 dup_leads bounds w p fd told answer =
-    open_free_has (λ d. d.outcome ≡ Replied (Number told) → IsLowest (table_of (slot w.processes p)) told × Leads w (changed w [] d.change) p told fd) (opened w p fd) (dup w p) (λ error refused. cc)
+    open_free_has (λ d. d.outcome ≡ Replied (Number told) → IsLowest (table_of (slot w.processes p)) told × Leads w (changed w [] d.change) p told fd)
+    (opened w p fd) (dup w p) (λ error refused. cc)
     (λ o is free h.
     let low : lowest (table_of (slot w.processes p)) ≡ Some told = told_free (lowest (table_of (slot w.processes p))) told free h in
     let least = lowest_is_least (table_of (slot w.processes p)) told low in
     let fd_is : free_descriptor w p ≡ told = ap (λ x. unwrap_or x 0) low in
-    let below : (process : Process) → slot w.processes p ≡ Some process → told < length process.table = λ process here. let P : Option Process → Type 0 = λ x. told < length (table_of x) in subst P here least.within in
+    let below : (process : Process) → slot w.processes p ≡ Some process → told < length process.table = λ process here. let P : Option Process → Type 0 =
+    λ x. told < length (table_of x) in subst P here least.within in
     (least, rw fd_is (set_leads w p told fd o is below))) answer
 
 -- a number that is told of a dup2 is the one that was asked
@@ -100,7 +106,8 @@ no_fault to p o free = by (is_no_descriptor to) refl
 
 pub dup2_leads : Dup2Leads
 dup2_leads bounds w p fd to told tables answer =
-    open_free_has (λ d. d.outcome ≡ Replied (Number told) → (pos told ≡ to) × Leads w (changed w [] d.change) p told fd) (opened w p fd) (dup2 p to) (λ error refused. cc)
+    open_free_has (λ d. d.outcome ≡ Replied (Number told) → (pos told ≡ to) × Leads w (changed w [] d.change) p told fd) (opened w p fd) (dup2 p to)
+    (λ error refused. cc)
     (λ o is free.
     let may = no_fault to p o free in
     if_has (λ d. d.outcome ≡ Replied (Number told) → (pos told ≡ to) × Leads w (changed w [] d.change) p told fd) (eqb (nat_abs to) o.fd)
@@ -112,7 +119,8 @@ dup2_leads bounds w p fd to told tables answer =
     (λ other h.
     let same : nat_abs to ≡ told = cc in
     let is_told = asked to told may same in
-    let below : (process : Process) → slot w.processes p ≡ Some process → told < length process.table = λ process here. omega (arith, is_told.1, tables p process here) in
+    let below : (process : Process) → slot w.processes p ≡ Some process → told < length process.table =
+    λ process here. omega (arith, is_told.1, tables p process here) in
     (is_told.0, rw same (set_leads w p told fd o is below)))) answer
 
 pub dup2_keeps_equal : Dup2KeepsEqual
@@ -121,4 +129,5 @@ dup2_keeps_equal bounds w p fd =
     (λ o is free.
     let at = opened_stands w p fd o is in
     let same : eqb (nat_abs fd) o.fd ≡ true = eq-eqb (nat_abs fd) o.fd (ap nat_abs (sym at.fd_is)) in
-    ap (λ b. changed w [] (cond b (tells (Number (nat_abs fd))) (does (Number (nat_abs fd)) on_files.Nothing (on_table.Entry p (nat_abs fd) (Some o.number)))).change) same)
+    ap (λ b. changed w [] (cond b (tells (Number (nat_abs fd)))
+    (does (Number (nat_abs fd)) on_files.Nothing (on_table.Entry p (nat_abs fd) (Some o.number)))).change) same)

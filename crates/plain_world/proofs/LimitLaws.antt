@@ -81,7 +81,8 @@ live_kept keeps m (x ∷ xs) =
     let was = live_cons x xs in
     omega arith
 
-bytes_within : (bounds : Bounds) (w : World) (f : ℕ) (bytes : List ℕ) → WithinLimits bounds w → length bytes ≤ bounds.file_size → WithinLimits bounds (with_bytes w f bytes)
+bytes_within : (bounds : Bounds) (w : World) (f : ℕ) (bytes : List ℕ) → WithinLimits bounds w → length bytes ≤ bounds.file_size →
+    WithinLimits bounds (with_bytes w f bytes)
 bytes_within bounds w f bytes h small = record {
   files = λ n. at_set (λ x. length (file_bytes x) ≤ bounds.file_size) w.files f (Some (file.Regular bytes)) n h.files small;
   pipes = h.pipes;
@@ -109,7 +110,8 @@ one_more_name name f (e ∷ es) =
       | Greater ↦ omega arith
     ]
 
-created_within : (bounds : Bounds) (w : World) (name : List ℕ) (new : File) → length (file_bytes (Some new)) ≤ 0 → WithinLimits bounds w → length w.names < NAMES_MAX → WithinLimits bounds (created w name new)
+created_within : (bounds : Bounds) (w : World) (name : List ℕ) (new : File) → length (file_bytes (Some new)) ≤ 0 → WithinLimits bounds w →
+    length w.names < NAMES_MAX → WithinLimits bounds (created w name new)
 created_within bounds w name new empty h room = record {
   files = λ n. at_push (λ x. length (file_bytes x) ≤ bounds.file_size) w.files (Some new) n h.files (omega (arith, empty));
   pipes = h.pipes;
@@ -120,11 +122,22 @@ created_within bounds w name new empty h room = record {
   processes = h.processes;
 }
 
-names_within : (bounds : Bounds) (w : World) (names : Entries) → WithinLimits bounds w → length names ≤ NAMES_MAX → WithinLimits bounds (record w { names = names })
-names_within bounds w names h few = record { files = h.files; pipes = h.pipes; offsets = h.offsets; tables = h.tables; names = few; descriptions = h.descriptions; processes = h.processes }
+names_within : (bounds : Bounds) (w : World) (names : Entries) → WithinLimits bounds w → length names ≤ NAMES_MAX →
+    WithinLimits bounds (record w { names = names })
+names_within bounds w names h few = record {
+  files = h.files;
+  pipes = h.pipes;
+  offsets = h.offsets;
+  tables = h.tables;
+  names = few;
+  descriptions =
+      h.descriptions;
+  processes = h.processes;
+}
 
 -- a pipe is edited, and holds no more than it may
-pipe_within : (bounds : Bounds) (w : World) (p : ℕ) (f : List ℕ → List ℕ) → WithinLimits bounds w → ((there : List ℕ) → slot w.pipes p ≡ Some there → length (f there) ≤ bounds.pipe_capacity) →
+pipe_within : (bounds : Bounds) (w : World) (p : ℕ) (f : List ℕ → List ℕ) → WithinLimits bounds w →
+    ((there : List ℕ) → slot w.pipes p ≡ Some there → length (f there) ≤ bounds.pipe_capacity) →
     WithinLimits bounds (record w { pipes = edited p f w.pipes })
 pipe_within bounds w p f h few =
     let new = option_map f (slot w.pipes p) in
@@ -138,7 +151,8 @@ pipe_within bounds w p f h few =
       processes = h.processes;
     }
   where
-    edited_few : (x : Option (List ℕ)) → ((there : List ℕ) → x ≡ Some there → length (f there) ≤ bounds.pipe_capacity) → length (pipe_bytes (option_map f x)) ≤ bounds.pipe_capacity
+    edited_few : (x : Option (List ℕ)) → ((there : List ℕ) → x ≡ Some there → length (f there) ≤ bounds.pipe_capacity) →
+        length (pipe_bytes (option_map f x)) ≤ bounds.pipe_capacity
     edited_few None few = omega arith
     edited_few (Some there) few = few there refl
 
@@ -161,11 +175,14 @@ names_few w (on_names.Move old new) few proper =
     let no_more = no_more_names new w.names in
     omega (arith, more, fewer, no_more, few)
 
-files_within : (bounds : Bounds) (w : World) (bytes : List ℕ) (e : FileEdit) → WithinLimits bounds w → FilesProper w bytes e → PutsWithin bounds.pipe_capacity w e → FilesWithin bounds e → WithinLimits bounds (with_files w bytes e)
+files_within : (bounds : Bounds) (w : World) (bytes : List ℕ) (e : FileEdit) → WithinLimits bounds w → FilesProper w bytes e →
+    PutsWithin bounds.pipe_capacity w e → FilesWithin bounds e → WithinLimits bounds (with_files w bytes e)
 files_within bounds w bytes on_files.Nothing h proper puts within = h
 files_within bounds w bytes (on_files.Bytes f start count) h proper puts within =
-    bytes_within bounds w f (splice (bytes_of w f) start (take count bytes)) h (splice_fits bounds.file_size start count (bytes_of w f) bytes (h.files f) within)
-files_within bounds w bytes (on_files.Resize f len) h proper puts within = bytes_within bounds w f (resized (bytes_of w f) len) h (resized_fits (bytes_of w f) len bounds.file_size within)
+    bytes_within bounds w f (splice (bytes_of w f) start (take count bytes)) h (splice_fits bounds.file_size start count (bytes_of w f) bytes
+    (h.files f) within)
+files_within bounds w bytes (on_files.Resize f len) h proper puts within = bytes_within bounds w f (resized (bytes_of w f) len) h
+    (resized_fits (bytes_of w f) len bounds.file_size within)
 files_within bounds w bytes (on_files.Names edit) h proper puts within = names_within bounds w (renamed edit w.names) h (names_few w edit h.names proper)
 files_within bounds w bytes (on_files.MakeFile name) h proper puts within = created_within bounds w name (file.Regular []) (omega arith) h proper.1
 files_within bounds w bytes (on_files.MakeFifo name) h proper puts within = created_within bounds w name (file.Fifo unopened) (omega arith) h proper.1
@@ -174,7 +191,8 @@ files_within bounds w bytes (on_files.Put p source count) h proper puts within =
     pipe_within bounds w p (after_those (take count new)) h
     (λ there is.
     let held : held_in w p ≡ length there = ap (λ x. length (pipe_bytes x)) is in
-    added_few there new count bounds.pipe_capacity (subst (λ k. k ≤ bounds.pipe_capacity) held (h.pipes p)) (subst (λ k. count ≤ bounds.pipe_capacity - k) held puts))
+    added_few there new count bounds.pipe_capacity (subst (λ k. k ≤ bounds.pipe_capacity) held (h.pipes p))
+    (subst (λ k. count ≤ bounds.pipe_capacity - k) held puts))
 files_within bounds w bytes (on_files.Take p count) h proper puts within =
     pipe_within bounds w p (drop count) h
     (λ there is.
@@ -190,13 +208,15 @@ process_within bounds w p f as_long h =
       files = h.files;
       pipes = h.pipes;
       offsets = h.offsets;
-      tables = λ n. at_set (λ o. (x : Process) → o ≡ Some x → length x.table ≡ OPEN_MAX) w.processes p new n h.tables (λ x e. all (slot w.processes p) x (h.tables p) e);
+      tables = λ n. at_set (λ o. (x : Process) → o ≡ Some x → length x.table ≡ OPEN_MAX) w.processes p new n h.tables
+          (λ x e. all (slot w.processes p) x (h.tables p) e);
       names = h.names;
       descriptions = h.descriptions;
       processes = rw (live_set w.processes p new (some_mapped f (slot w.processes p))) h.processes;
     }
   where
-    all : (old : Option Process) (x : Process) → ((y : Process) → old ≡ Some y → length y.table ≡ OPEN_MAX) → option_map f old ≡ Some x → length x.table ≡ OPEN_MAX
+    all : (old : Option Process) (x : Process) → ((y : Process) → old ≡ Some y → length y.table ≡ OPEN_MAX) → option_map f old ≡ Some x →
+        length x.table ≡ OPEN_MAX
     all None x before e = cc
     all (Some y) x before e = let same : f y ≡ x = cc in subst (λ (z : Process). length z.table ≡ OPEN_MAX) same (as_long y ∙ before y refl)
 
@@ -205,7 +225,8 @@ abbrev HasAll : ProcessEdit → Type 0
 HasAll (on_process.Add table attached) = length table ≡ OPEN_MAX
 HasAll other = Unit {0}
 
-processes_within : (bounds : Bounds) (w : World) (e : ProcessEdit) → WithinLimits bounds w → ProcessProper w e → HasAll e → WithinLimits bounds (with_processes w e)
+processes_within : (bounds : Bounds) (w : World) (e : ProcessEdit) → WithinLimits bounds w → ProcessProper w e → HasAll e →
+    WithinLimits bounds (with_processes w e)
 processes_within bounds w on_process.Nothing h proper all = h
 processes_within bounds w (on_process.Add table attached) h proper all = let p = process_with table attached in record {
   files = h.files;
@@ -234,21 +255,24 @@ processes_within bounds w on_process.Close h proper all =
     record { files = h.files; pipes = h.pipes; offsets = h.offsets; tables = h.tables; names = h.names; descriptions = h.descriptions; processes = h.processes }
 
 -- the offset or the flags of a description are written
-description_within : (bounds : Bounds) (w : World) (n : ℕ) (f : Description → Description) → WithinLimits bounds w → ((d : Description) → d.offset ≤ OFFSET_MAX → (f d).offset ≤ OFFSET_MAX) →
+description_within : (bounds : Bounds) (w : World) (n : ℕ) (f : Description → Description) → WithinLimits bounds w →
+    ((d : Description) → d.offset ≤ OFFSET_MAX → (f d).offset ≤ OFFSET_MAX) →
     WithinLimits bounds (record w { descriptions = edited n f w.descriptions })
 description_within bounds w n f h small =
     let moved = option_map f (slot w.descriptions n) in
     record {
       files = h.files;
       pipes = h.pipes;
-      offsets = λ m. at_set (λ o. (x : Description) → o ≡ Some x → x.offset ≤ OFFSET_MAX) w.descriptions n moved m h.offsets (λ d e. as_small (slot w.descriptions n) d (h.offsets n) e);
+      offsets = λ m. at_set (λ o. (x : Description) → o ≡ Some x → x.offset ≤ OFFSET_MAX) w.descriptions n moved m h.offsets
+          (λ d e. as_small (slot w.descriptions n) d (h.offsets n) e);
       tables = h.tables;
       names = h.names;
       descriptions = rw (live_set w.descriptions n moved (some_mapped f (slot w.descriptions n))) h.descriptions;
       processes = h.processes;
     }
   where
-    as_small : (old : Option Description) (d : Description) → ((x : Description) → old ≡ Some x → x.offset ≤ OFFSET_MAX) → option_map f old ≡ Some d → d.offset ≤ OFFSET_MAX
+    as_small : (old : Option Description) (d : Description) → ((x : Description) → old ≡ Some x → x.offset ≤ OFFSET_MAX) → option_map f old ≡ Some d →
+        d.offset ≤ OFFSET_MAX
     as_small None d before e = cc
     as_small (Some x) d before e = let same : f x ≡ d = cc in subst (λ (y : Description). y.offset ≤ OFFSET_MAX) same (small x (before x refl))
 
@@ -275,9 +299,11 @@ described_within bounds w d h small room = record {
 }
 
 -- a descriptor refers to one more description
-opened_within : (bounds : Bounds) (w : World) (p fd : ℕ) (d : Description) → WithinLimits bounds w → d.offset ≤ OFFSET_MAX → live w.descriptions < DESCRIPTIONS_MAX → WithinLimits bounds (with_description w p fd d)
+opened_within : (bounds : Bounds) (w : World) (p fd : ℕ) (d : Description) → WithinLimits bounds w → d.offset ≤ OFFSET_MAX →
+    live w.descriptions < DESCRIPTIONS_MAX → WithinLimits bounds (with_description w p fd d)
 opened_within bounds w p fd d h small room =
-    descriptor_within bounds (record w { descriptions = w.descriptions ++ Some d ∷ [] }) p fd (Some (length w.descriptions)) (described_within bounds w d h small room)
+    descriptor_within bounds (record w { descriptions = w.descriptions ++ Some d ∷ [] }) p fd (Some (length w.descriptions))
+    (described_within bounds w d h small room)
 
 -- one more pipe, which is empty
 piped_within : (bounds : Bounds) (w : World) → WithinLimits bounds w → WithinLimits bounds (with_pipe w)
@@ -297,7 +323,8 @@ opening_length m pipe None = omega arith
 opening_length m pipe (Some (file.Regular bytes)) = omega arith
 opening_length m pipe (Some (file.Fifo fifo)) = omega arith
 
-pipe_for_within : (most : ℕ) (has : Option ℕ) (pipes : List (Option (List ℕ))) (n : ℕ) → ((k : ℕ) → length (pipe_bytes (slot pipes k)) ≤ most) → length (pipe_bytes (slot (with_pipe_for has pipes) n)) ≤ most
+pipe_for_within : (most : ℕ) (has : Option ℕ) (pipes : List (Option (List ℕ))) (n : ℕ) → ((k : ℕ) → length (pipe_bytes (slot pipes k)) ≤ most) →
+    length (pipe_bytes (slot (with_pipe_for has pipes) n)) ≤ most
 pipe_for_within most None pipes n h = at_push (λ x. length (pipe_bytes x) ≤ most) pipes (Some []) n h (omega arith)
 pipe_for_within most (Some pipe) pipes n h = h n
 
@@ -326,9 +353,11 @@ table_within bounds w (on_table.OpenPair p reading writing) h proper within =
     let first = end_of pipe mode.Read in
     let u = with_description (with_pipe w) p reading first in
     let more = live_push w.descriptions first in
-    opened_within bounds u p writing (end_of pipe mode.Write) (opened_within bounds (with_pipe w) p reading first (piped_within bounds w h) (omega arith) (omega (arith, proper))) (omega arith)
+    opened_within bounds u p writing (end_of pipe mode.Write) (opened_within bounds (with_pipe w) p reading first (piped_within bounds w h) (omega arith)
+    (omega (arith, proper))) (omega arith)
     (omega (arith, more, proper))
-table_within bounds w (on_table.OpenEnd p fd f d) h proper within = opened_within bounds (with_opening w f d.mode) p fd d (opening_within bounds w f d.mode h) within proper
+table_within bounds w (on_table.OpenEnd p fd f d) h proper within = opened_within bounds (with_opening w f d.mode) p fd d
+    (opening_within bounds w f d.mode h) within proper
 table_within bounds w (on_table.Entry p fd entry) h proper within = descriptor_within bounds w p fd entry h
 
 -- room stays where the parts that it is in stay
@@ -344,7 +373,8 @@ table_room w v (on_table.OpenPair p reading writing) same proper = rw same prope
 table_room w v (on_table.OpenEnd p fd f d) same proper = rw same proper
 table_room w v (on_table.Entry p fd entry) same proper = tt
 
-change_within : (bounds : Bounds) (w : World) (bytes : List ℕ) (c : Change) → WithinLimits bounds w → IsProper w bytes c → PutsWithin bounds.pipe_capacity w c.files → HasAll c.process →
+change_within : (bounds : Bounds) (w : World) (bytes : List ℕ) (c : Change) → WithinLimits bounds w → IsProper w bytes c →
+    PutsWithin bounds.pipe_capacity w c.files → HasAll c.process →
     FilesWithin bounds c.files → TableWithin c.table → WithinLimits bounds (changed w bytes c)
 change_within bounds w bytes c h proper puts all files table =
     let u = with_files w bytes c.files in
@@ -366,7 +396,8 @@ copied_all None all = free_all
 copied_all (Some parent) all = all parent refl
 
 -- a process that is added has all descriptors
-adds_all : (bounds : Bounds) (w : World) (actor : ℕ) (act : Act) (d : Decided) → WithinLimits bounds w → Sound bounds w actor act d → comes_to bounds w actor act ≡ Some d → HasAll d.change.process
+adds_all : (bounds : Bounds) (w : World) (actor : ℕ) (act : Act) (d : Decided) → WithinLimits bounds w → Sound bounds w actor act d →
+    comes_to bounds w actor act ≡ Some d → HasAll d.change.process
 adds_all bounds w actor act.Join d h sound is =
     let Has : Decided → Type 0 = λ x. HasAll x.change.process in
     subst Has (where_may (eqb actor (length w.processes)) (decided_by (join w)) d is) (page_has Has (join w) (λ _. tt) (λ _. free_all))
@@ -377,7 +408,8 @@ adds_all bounds w actor (act.Call call.Fork) d h sound is =
 adds_all bounds w actor other d h sound is = none_made d.change.process sound.processes.planned
 
 -- what a sweep leaves of a file is no longer
-left_of_file : (ds : List (Option Description)) (b : Bool) (x : Option File) (most : ℕ) → length (file_bytes x) ≤ most → length (file_bytes (cond b (without_gone_pipe ds x) None)) ≤ most
+left_of_file : (ds : List (Option Description)) (b : Bool) (x : Option File) (most : ℕ) → length (file_bytes x) ≤ most →
+    length (file_bytes (cond b (without_gone_pipe ds x) None)) ≤ most
 left_of_file ds false x most h = omega arith
 left_of_file ds true None most h = h
 left_of_file ds true (Some (file.Regular bytes)) most h = h
@@ -409,7 +441,8 @@ step_keeps_limits sound leaves bounds w actor act s small within h =
     let x = sound bounds w actor act d is in
     let v = changed w (given act) d.change in
     sweep_within leaves bounds v
-    (change_within bounds w (given act) d.change within (x.proper small) x.puts (adds_all bounds w actor act d within x is) x.within_files (x.within_table small within))) h
+    (change_within bounds w (given act) d.change within (x.proper small) x.puts (adds_all bounds w actor act d within x is) x.within_files
+    (x.within_table small within))) h
 
 empty_within : (bounds : Bounds) → WithinLimits bounds empty_world
 empty_within bounds = record {
@@ -422,10 +455,12 @@ empty_within bounds = record {
   processes = omega arith;
 }
 
-limits_from : StepKeepsLimits → (bounds : Bounds) (w : World) (rs : List Record) → bounds.file_size ≤ OFFSET_MAX → WithinLimits bounds w → WithinLimits bounds (world_from bounds w rs)
+limits_from : StepKeepsLimits → (bounds : Bounds) (w : World) (rs : List Record) → bounds.file_size ≤ OFFSET_MAX → WithinLimits bounds w →
+    WithinLimits bounds (world_from bounds w rs)
 limits_from steps bounds w [] small h = h
 limits_from steps bounds w (r ∷ rs) small h =
-    limits_from steps bounds (after bounds w r) rs small (stepped_or_not (WithinLimits bounds) w (step bounds w r.actor r.act) h (λ s e. steps bounds w r.actor r.act s small h e))
+    limits_from steps bounds (after bounds w r) rs small (stepped_or_not (WithinLimits bounds) w (step bounds w r.actor r.act) h
+    (λ s e. steps bounds w r.actor r.act s small h e))
 
 pub limits_hold : ActsAreSound → SweepLeaves → LimitsHold
 limits_hold sound leaves bounds h small = limits_from (step_keeps_limits sound leaves) bounds empty_world h small (empty_within bounds)

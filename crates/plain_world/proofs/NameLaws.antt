@@ -43,7 +43,8 @@ pub link_names : LinkNames
 link_names bounds w p old new told =
     let found = file_of old w.names in
     page_has (λ d. d.outcome ≡ Replied Done → Linked w (changed w [] d.change) old new) (link w old new) (λ error refused. cc)
-    (λ free _. linked w old new found refl (no_fault_after (name_faults new) (linked_faults w new found) (no_fault_after (name_faults old) (name_faults new ++ linked_faults w new found) free))) told
+    (λ free _. linked w old new found refl (no_fault_after (name_faults new) (linked_faults w new found)
+    (no_fault_after (name_faults old) (name_faults new ++ linked_faults w new found) free))) told
 
 pub unlink_names : UnlinkNames
 unlink_names bounds w p name told =
@@ -59,7 +60,8 @@ at_file : (f : ℕ) (x : Option ℕ) → leads_to f x ≡ true → x ≡ Some f
 at_file f None h = cc
 at_file f (Some g) h = ap Some (eqb-true g f h)
 
-renamed : (w : World) (old new : List ℕ) (f : ℕ) → file_of old w.names ≡ Some f → old ≢ new → Renamed w (changed w [] (does Done (on_files.Names (on_names.Move old new)) on_table.Nothing).change) old new
+renamed : (w : World) (old new : List ℕ) (f : ℕ) → file_of old w.names ≡ Some f → old ≢ new →
+    Renamed w (changed w [] (does Done (on_files.Names (on_names.Move old new)) on_table.Nothing).change) old new
 renamed w old new f is differs =
     let fewer = without_name new w.names in
     let left = without_name old fewer in
@@ -67,18 +69,21 @@ renamed w old new f is differs =
     record {
       leads = named_file new g left ∙ rw is refl;
       gone = other_file old new g left differs ∙ gone_name old fewer;
-      others = λ name from_old from_new. other_file name new g left from_new ∙ (other_name old name fewer (λ same. from_old (sym same)) ∙ other_name new name w.names (λ same. from_new (sym same)));
+      others = λ name from_old from_new. other_file name new g left from_new ∙
+          (other_name old name fewer (λ same. from_old (sym same)) ∙ other_name new name w.names (λ same. from_new (sym same)));
       alone = record { files = refl; pipes = refl; descriptions = refl; processes = refl };
     }
 
-rename_found : (w : World) (old new : List ℕ) (found : Option ℕ) → file_of old w.names ≡ found → first_fault (rename_faults old new found) ≡ None → file_of new w.names ≢ file_of old w.names →
+rename_found : (w : World) (old new : List ℕ) (found : Option ℕ) → file_of old w.names ≡ found → first_fault (rename_faults old new found) ≡ None →
+    file_of new w.names ≢ file_of old w.names →
     Renamed w (changed w [] (rename_at w old new found).effect.change) old new
 rename_found w old new None is free apart_files =
     let none = no_fault_after (name_faults new) ((true, ENOENT) ∷ []) (no_fault_after (name_faults old) (name_faults new ++ (true, ENOENT) ∷ []) free) in
     cc
 rename_found w old new (Some f) is free apart_files =
     let differs : old ≢ new = λ same. apart_files (ap (λ name. file_of name w.names) (sym same)) in
-    if_has (λ d. Renamed w (changed w [] d.change) old new) (leads_to f (file_of new w.names)) (tells Done) (does Done (on_files.Names (on_names.Move old new)) on_table.Nothing)
+    if_has (λ d. Renamed w (changed w [] d.change) old new) (leads_to f (file_of new w.names)) (tells Done)
+    (does Done (on_files.Names (on_names.Move old new)) on_table.Nothing)
     (λ there. absurd (apart_files (at_file f (file_of new w.names) there ∙ sym is))) (λ _. renamed w old new f is differs)
 
 pub rename_names : RenameNames
@@ -87,7 +92,8 @@ rename_names bounds w p old new apart_files told =
     (λ free _. rename_found w old new (file_of old w.names) refl free apart_files) told
 
 -- of two names of one file
-one_file : (w : World) (old new : List ℕ) (found : Option ℕ) → file_of old w.names ≡ found → file_of new w.names ≡ found → first_fault (rename_faults old new found) ≡ None →
+one_file : (w : World) (old new : List ℕ) (found : Option ℕ) → file_of old w.names ≡ found → file_of new w.names ≡ found →
+    first_fault (rename_faults old new found) ≡ None →
     changed w [] (rename_at w old new found).effect.change ≡ w
 one_file w old new None is at free =
     let none = no_fault_after (name_faults new) ((true, ENOENT) ∷ []) (no_fault_after (name_faults old) (name_faults new ++ (true, ENOENT) ∷ []) free) in

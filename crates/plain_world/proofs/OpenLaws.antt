@@ -64,7 +64,8 @@ pub opened_leads : (v : World) (p : ℕ) (d : Description) (k : ℕ) → lowest 
     opened (with_description v p k d) p (pos k) ≡ Some (record { fd = k; number = length v.descriptions; description = d })
 opened_leads v p d k low =
     let n = length v.descriptions in
-    ap (opened_number (with_description v p k d) k) (entry_stands v.processes p k n (slot v.processes p) refl low) ∙ ap (opened_description k n) (slot_at_end v.descriptions (Some d))
+    ap (opened_number (with_description v p k d) k) (entry_stands v.processes p k n (slot v.processes p) refl low) ∙
+    ap (opened_description k n) (slot_at_end v.descriptions (Some d))
 
 opens_with : (w v : World) (p : ℕ) (name : List ℕ) (flags : OpenFlags) (file k : ℕ) (t : Target) → v.descriptions ≡ w.descriptions →
     file_of name v.names ≡ Some file → t ≡ target_on w file (fifo_at (slot w.files file)) → lowest (table_of (slot w.processes p)) ≡ Some k →
@@ -86,7 +87,11 @@ opens_with w v p name flags file k t same named on low still =
     })
 
 emptied_names : (w : World) (n : ℕ) (flags : OpenFlags) → (with_files w [] (emptied n flags)).names ≡ w.names
-emptied_names w n flags = elim (has flags flag.trunc) as (λ b. (with_files w [] (cond b (on_files.Resize n 0) on_files.Nothing)).names ≡ w.names) [ true ↦ refl | false ↦ refl ]
+emptied_names w n flags = elim (has flags flag.trunc) as (λ b. (with_files w [] (cond b (on_files.Resize n 0) on_files.Nothing)).names ≡ w.names) [
+  | true ↦
+      refl
+  | false ↦ refl
+]
 
 -- a number past the end of the files has no FIFO
 none_past : (files : List (Option File)) → fifo_at (slot files (length files)) ≡ None
@@ -94,7 +99,8 @@ none_past [] = refl
 none_past (f ∷ files) = none_past files
 
 -- a process that waits has its descriptors
-pub still_lowest : (ps : List (Option Process)) (p k : ℕ) (parked : Parked) → lowest (table_of (slot ps p)) ≡ Some k → lowest (table_of (slot (edited p (with_parked (Some parked)) ps) p)) ≡ Some k
+pub still_lowest : (ps : List (Option Process)) (p k : ℕ) (parked : Parked) → lowest (table_of (slot ps p)) ≡ Some k →
+    lowest (table_of (slot (edited p (with_parked (Some parked)) ps) p)) ≡ Some k
 still_lowest ps p k parked low = ap (λ x. lowest (table_of x)) (slot_edited ps p (with_parked (Some parked))) ∙ (ap lowest (same_table (slot ps p)) ∙ low)
   where
     same_table : (x : Option Process) → table_of (option_map (with_parked (Some parked)) x) ≡ table_of x
@@ -109,7 +115,8 @@ still_waits ps p k fd entry parked low =
     ap parked_of (slot_edited waiting p (with_entry fd entry)) ∙
     (ap (λ x. parked_of (option_map (with_entry fd entry) x)) (slot_edited ps p (with_parked (Some parked))) ∙ by_process (slot ps p) low)
   where
-    by_process : (there : Option Process) → lowest (table_of there) ≡ Some k → parked_of (option_map (with_entry fd entry) (option_map (with_parked (Some parked)) there)) ≡ Some parked
+    by_process : (there : Option Process) → lowest (table_of there) ≡ Some k →
+        parked_of (option_map (with_entry fd entry) (option_map (with_parked (Some parked)) there)) ≡ Some parked
     by_process None low = cc
     by_process (Some process) low = refl
 
@@ -132,7 +139,8 @@ opens_end_with w ps p name flags n k fifo is stands low still =
 
 -- and its process waits in the open
 waits_with : (w : World) (p : ℕ) (name : List ℕ) (flags : OpenFlags) (n k openings : ℕ) (fifo : Fifo) → lowest (table_of (slot w.processes p)) ≡ Some k →
-    WaitsWith (changed w [] (parks p (waiting (call.Open name flags) (free_descriptor w p) 0 openings) (opens_end w p flags n fifo)).change) p (call.Open name flags) k
+    WaitsWith (changed w [] (parks p (waiting (call.Open name flags) (free_descriptor w p) 0 openings) (opens_end w p flags n fifo)).change) p
+    (call.Open name flags) k
 waits_with w p name flags n k openings fifo low =
     let parked = waiting (call.Open name flags) (free_descriptor w p) 0 openings in
     record {
@@ -143,7 +151,8 @@ waits_with w p name flags n k openings fifo low =
       unmoved = refl;
     }
 
-opens_there : (w : World) (p : ℕ) (name : List ℕ) (flags : OpenFlags) (n k : ℕ) (fifo : Option Fifo) → file_of name w.names ≡ Some n → fifo_at (slot w.files n) ≡ fifo →
+opens_there : (w : World) (p : ℕ) (name : List ℕ) (flags : OpenFlags) (n k : ℕ) (fifo : Option Fifo) → file_of name w.names ≡ Some n →
+    fifo_at (slot w.files n) ≡ fifo →
     lowest (table_of (slot w.processes p)) ≡ Some k → Opened w p name flags k (open_there w p name flags n fifo)
 opens_there w p name flags n k None is stands low =
     let e = emptied n flags in
@@ -152,7 +161,8 @@ opens_there w p name flags n k None is stands low =
     let still = ap (λ ps. lowest (table_of (slot ps p))) leaves.1 ∙ low in
     record {
       given = inl (told_free w p k low);
-      opens = opens_with w v p name flags n k (target.Regular n) leaves.0 (ap (file_of name) (emptied_names w n flags) ∙ is) (ap (target_on w n) (sym stands)) low still;
+      opens = opens_with w v p name flags n k (target.Regular n) leaves.0 (ap (file_of name) (emptied_names w n flags) ∙ is)
+          (ap (target_on w n) (sym stands)) low still;
     }
 opens_there w p name flags n k (Some fifo) is stands low =
     let opens = opens_end w p flags n fifo in
@@ -166,7 +176,8 @@ opens_there w p name flags n k (Some fifo) is stands low =
       opens = opens_end_with w ps p name flags n k fifo is stands low (still_lowest w.processes p k parked low);
     })
 
-opens_found : (w : World) (p : ℕ) (name : List ℕ) (flags : OpenFlags) (found : Option ℕ) (k : ℕ) → file_of name w.names ≡ found → lowest (table_of (slot w.processes p)) ≡ Some k →
+opens_found : (w : World) (p : ℕ) (name : List ℕ) (flags : OpenFlags) (found : Option ℕ) (k : ℕ) → file_of name w.names ≡ found →
+    lowest (table_of (slot w.processes p)) ≡ Some k →
     Opened w p name flags k (open_found w p name flags found)
 opens_found w p name flags None k is low =
     let e = on_files.MakeFile name in
@@ -176,7 +187,8 @@ opens_found w p name flags None k is low =
     let still = ap (λ ps. lowest (table_of (slot ps p))) leaves.1 ∙ low in
     record {
       given = inl (told_free w p k low);
-      opens = opens_with w v p name flags next k (target.Regular next) leaves.0 (named_file name next w.names) (ap (target_on w next) (sym (none_past w.files))) low still;
+      opens = opens_with w v p name flags next k (target.Regular next) leaves.0 (named_file name next w.names) (ap (target_on w next) (sym (none_past w.files)))
+          low still;
     }
 opens_found w p name flags (Some n) k is low = opens_there w p name flags n k (fifo_at (slot w.files n)) is refl low
 
@@ -184,7 +196,8 @@ pub open_describes : OpenDescribes
 open_describes bounds w p name flags no_error =
     let found = file_of name w.names in
     let table = table_of (slot w.processes p) in
-    page_has (λ d. IsNoError d.outcome → OpensLowest w (changed w [] d.change) p name flags d.outcome) (open_file w p name flags) (λ error no_error. absurd (no_error error refl))
+    page_has (λ d. IsNoError d.outcome → OpensLowest w (changed w [] d.change) p name flags d.outcome) (open_file w p name flags)
+    (λ error no_error. absurd (no_error error refl))
     (λ free _.
     let low = has_free w p name flags found free in
     let opened = opens_found w p name flags found low.0 refl low.1 in
@@ -223,7 +236,8 @@ excl_opens_new bounds w p name flags excl creat no_error =
     (λ free _. excl_found w p flags found excl creat (later_clear w p name flags found free)) no_error
 
 -- a FIFO that would be opened for both is a fault
-both_refuses : (w : World) (flags : OpenFlags) (n : ℕ) (rest : List (Bool × Errno)) (fifo : Fifo) → fifo_at (slot w.files n) ≡ Some fifo → has flags flag.reading ≡ true →
+both_refuses : (w : World) (flags : OpenFlags) (n : ℕ) (rest : List (Bool × Errno)) (fifo : Fifo) → fifo_at (slot w.files n) ≡ Some fifo →
+    has flags flag.reading ≡ true →
     has flags flag.writing ≡ true → is_some (first_fault (found_faults w flags (Some n) ++ rest)) ≡ true
 both_refuses w flags n rest fifo stands reads writes = rw (stands, reads, writes) (search rules)
 
@@ -261,15 +275,18 @@ opened_no_bytes mode pipe (Some (file.Regular bytes)) h = h
 opened_no_bytes mode pipe (Some (file.Fifo fifo)) h = refl
 
 -- an open of an end of a FIFO leaves all other files
-end_empties : (w : World) (p : ℕ) (flags : OpenFlags) (n : ℕ) (fifo : Fifo) → fifo_at (slot w.files n) ≡ Some fifo → EmptiesFile n w (changed w [] (opens_end w p flags n fifo).change)
+end_empties : (w : World) (p : ℕ) (flags : OpenFlags) (n : ℕ) (fifo : Fifo) → fifo_at (slot w.files n) ≡ Some fifo →
+    EmptiesFile n w (changed w [] (opens_end w p flags n fifo).change)
 end_empties w p flags n fifo stands =
     let edit = opened_file (mode_of flags) (pipe_between w (fifo_at (slot w.files n))) in
     record {
-      emptied = ap file_bytes (slot_edited w.files n edit) ∙ opened_no_bytes (mode_of flags) (pipe_between w (fifo_at (slot w.files n))) (slot w.files n) (no_bytes (slot w.files n) fifo stands);
+      emptied = ap file_bytes (slot_edited w.files n edit) ∙ opened_no_bytes (mode_of flags) (pipe_between w (fifo_at (slot w.files n))) (slot w.files n)
+          (no_bytes (slot w.files n) fifo stands);
       others = λ m other. other_slot w.files n m edit other;
     }
 
-trunc_there : (w : World) (p : ℕ) (name : List ℕ) (flags : OpenFlags) (n : ℕ) (fifo : Option Fifo) → fifo_at (slot w.files n) ≡ fifo → has flags flag.trunc ≡ true →
+trunc_there : (w : World) (p : ℕ) (name : List ℕ) (flags : OpenFlags) (n : ℕ) (fifo : Option Fifo) → fifo_at (slot w.files n) ≡ fifo →
+    has flags flag.trunc ≡ true →
     EmptiesFile n w (changed w [] (open_there w p name flags n fifo).change)
 trunc_there w p name flags n None stands trunc = rw trunc (record {
   emptied = emptied_bytes w.files n;
@@ -285,14 +302,16 @@ trunc_there w p name flags n (Some fifo) stands trunc =
 trunc_found : (w : World) (p : ℕ) (name : List ℕ) (flags : OpenFlags) (found : Option ℕ) (n : ℕ) → found ≡ Some n → has flags flag.trunc ≡ true →
     EmptiesFile n w (changed w [] (open_found w p name flags found).change)
 trunc_found w p name flags found n is trunc =
-    subst (λ (x : Option ℕ). EmptiesFile n w (changed w [] (open_found w p name flags x).change)) (sym is) (trunc_there w p name flags n (fifo_at (slot w.files n)) refl trunc)
+    subst (λ (x : Option ℕ). EmptiesFile n w (changed w [] (open_found w p name flags x).change)) (sym is)
+    (trunc_there w p name flags n (fifo_at (slot w.files n)) refl trunc)
 
 pub trunc_open_empties : TruncOpenEmpties
 trunc_open_empties bounds w p name flags n is trunc no_error =
     page_has (λ d. IsNoError d.outcome → EmptiesFile n w (changed w [] d.change)) (open_file w p name flags) (λ error no_error. absurd (no_error error refl))
     (λ _ _. trunc_found w p name flags (file_of name w.names) n is trunc) no_error
 
-kept_found : (w : World) (p : ℕ) (name : List ℕ) (flags : OpenFlags) (found : Option ℕ) (n : ℕ) → found ≡ Some n → fifo_at (slot w.files n) ≡ None → has flags flag.trunc ≡ false →
+kept_found : (w : World) (p : ℕ) (name : List ℕ) (flags : OpenFlags) (found : Option ℕ) (n : ℕ) → found ≡ Some n → fifo_at (slot w.files n) ≡ None →
+    has flags flag.trunc ≡ false →
     (changed w [] (open_found w p name flags found).change).files ≡ w.files
 kept_found w p name flags found n is regular trunc =
     subst (λ (x : Option ℕ). (changed w [] (open_found w p name flags x).change).files ≡ w.files) (sym is)
@@ -300,10 +319,12 @@ kept_found w p name flags found n is regular trunc =
 
 pub open_keeps_files : OpenKeepsFiles
 open_keeps_files bounds w p name flags n is regular trunc =
-    page_has (λ d. (changed w [] d.change).files ≡ w.files) (open_file w p name flags) (λ _. refl) (λ _. kept_found w p name flags (file_of name w.names) n is regular trunc)
+    page_has (λ d. (changed w [] d.change).files ≡ w.files) (open_file w p name flags) (λ _. refl)
+    (λ _. kept_found w p name flags (file_of name w.names) n is regular trunc)
 
 -- what an open leaves of another file than its own
-other_stays : (w : World) (p : ℕ) (name : List ℕ) (flags : OpenFlags) (n m : ℕ) (fifo : Option Fifo) → m ≢ n → slot (changed w [] (open_there w p name flags n fifo).change).files m ≡ slot w.files m
+other_stays : (w : World) (p : ℕ) (name : List ℕ) (flags : OpenFlags) (n m : ℕ) (fifo : Option Fifo) → m ≢ n →
+    slot (changed w [] (open_there w p name flags n fifo).change).files m ≡ slot w.files m
 other_stays w p name flags n m None other =
     elim (has flags flag.trunc) as (λ b. slot (with_files w [] (cond b (on_files.Resize n 0) on_files.Nothing)).files m ≡ slot w.files m) [
       | true ↦ get_or-set_other w.files n m (Some (file.Regular [])) None other
@@ -313,16 +334,19 @@ other_stays w p name flags n m (Some fifo) other =
     let opens = opens_end w p flags n fifo in
     let parked = waiting (call.Open name flags) (free_descriptor w p) 0 (opposite_openings (mode_of flags) (Some fifo)) in
     let edit = opened_file (mode_of flags) (pipe_between w (fifo_at (slot w.files n))) in
-    if_has (λ d. slot (changed w [] d.change).files m ≡ slot w.files m) (has flags flag.nonblocking || is_met w (mode_of flags) fifo) opens (parks p parked opens)
+    if_has (λ d. slot (changed w [] d.change).files m ≡ slot w.files m) (has flags flag.nonblocking || is_met w (mode_of flags) fifo) opens
+    (parks p parked opens)
     (λ _. other_slot w.files n m edit other) (λ _. other_slot w.files n m edit other)
 
 pub open_keeps_others : OpenKeepsOthers
 open_keeps_others bounds w p name flags n m is other =
     page_has (λ d. slot (changed w [] d.change).files m ≡ slot w.files m) (open_file w p name flags) (λ _. refl)
-    (λ _. subst (λ (x : Option ℕ). slot (changed w [] (open_found w p name flags x).change).files m ≡ slot w.files m) (sym is) (other_stays w p name flags n m (fifo_at (slot w.files n)) other))
+    (λ _. subst (λ (x : Option ℕ). slot (changed w [] (open_found w p name flags x).change).files m ≡ slot w.files m) (sym is)
+    (other_stays w p name flags n m (fifo_at (slot w.files n)) other))
 
 pub open_makes_empty : OpenMakesEmpty
 open_makes_empty bounds w p name flags is no_error =
     let new = Some (file.Regular []) in
-    page_has (λ d. IsNoError d.outcome → (changed w [] d.change).files ≡ w.files ++ new ∷ []) (open_file w p name flags) (λ error no_error. absurd (no_error error refl))
+    page_has (λ d. IsNoError d.outcome → (changed w [] d.change).files ≡ w.files ++ new ∷ []) (open_file w p name flags)
+    (λ error no_error. absurd (no_error error refl))
     (λ _ _. subst (λ (x : Option ℕ). (changed w [] (open_found w p name flags x).change).files ≡ w.files ++ new ∷ []) (sym is) refl) no_error

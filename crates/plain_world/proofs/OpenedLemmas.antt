@@ -19,7 +19,8 @@ open_description w p fd number (Some d) o entry stands h =
     let same : opens ≡ o = cc in
     subst (λ (x : OpenDescriptor). IsOpenAt w p (pos fd) x) same (record { fd_is = refl; entry_is = entry; description_is = stands })
 
-open_number : (w : World) (p fd : ℕ) (entry : Option ℕ) (o : OpenDescriptor) → slot (table_of (slot w.processes p)) fd ≡ entry → opened_number w fd entry ≡ Some o → IsOpenAt w p (pos fd) o
+open_number : (w : World) (p fd : ℕ) (entry : Option ℕ) (o : OpenDescriptor) → slot (table_of (slot w.processes p)) fd ≡ entry →
+    opened_number w fd entry ≡ Some o → IsOpenAt w p (pos fd) o
 open_number w p fd None o at h = cc
 open_number w p fd (Some number) o at h = open_description w p fd number (slot w.descriptions number) o at refl h
 

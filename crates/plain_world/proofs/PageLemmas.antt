@@ -14,7 +14,8 @@ pub on_open_has : (Has : Decided → Type 0) (o : Option OpenDescriptor) (page :
 on_open_has Has o page refuses all = open_free_has Has o page refuses (λ x is _. all x is)
 
 -- the same of a descriptor that is open
-pub opened_has : (Has : Decided → Type 0) (o : Option OpenDescriptor) (x : OpenDescriptor) (page : OpenDescriptor → Page) → o ≡ Some x → ((error : Errno) → Has (refused error)) →
+pub opened_has : (Has : Decided → Type 0) (o : Option OpenDescriptor) (x : OpenDescriptor) (page : OpenDescriptor → Page) → o ≡ Some x →
+    ((error : Errno) → Has (refused error)) →
     (first_fault (page x).faults ≡ None → Has (page x).effect) → Has (on_open o page)
 opened_has Has o x page is refuses all = subst (λ o. Has (on_open o page)) (sym is) (page_has Has (page x) refuses all)
 

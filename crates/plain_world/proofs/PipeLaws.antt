@@ -70,7 +70,8 @@ pub unparked_is_not_resumed : UnparkedIsNotResumed
 unparked_is_not_resumed bounds w p none = ap (λ x. option_map (stepped w []) (option_map (next_try p) x)) (none_next bounds w p none)
 
 -- bytes that are there stay the first, where some are put after those of any pipe
-held_first : (new : List ℕ) (pipes : List (Option (List ℕ))) (q pipe : ℕ) (there : List ℕ) → slot pipes pipe ≡ Some there → HoldsAfter there (slot (edited q (after_those new) pipes) pipe)
+held_first : (new : List ℕ) (pipes : List (Option (List ℕ))) (q pipe : ℕ) (there : List ℕ) → slot pipes pipe ≡ Some there →
+    HoldsAfter there (slot (edited q (after_those new) pipes) pipe)
 held_first new [] q pipe there h = cc
 held_first new (x ∷ pipes) zero zero there h = record { more = new; holds = ap (option_map (after_those new)) h }
 held_first new (x ∷ pipes) zero (suc pipe) there h = record { more = []; holds = h ∙ ap (λ (l : List ℕ). Some l) (sym (append-nil there)) }
@@ -82,7 +83,8 @@ abbrev takes_none : FileEdit → Bool
 takes_none (on_files.Take pipe count) = false
 takes_none other = true
 
-edit_loses_none : (w : World) (bytes : List ℕ) (e : FileEdit) (pipe : ℕ) (there : List ℕ) → takes_none e ≡ true → slot w.pipes pipe ≡ Some there → HoldsAfter there (slot (with_files w bytes e).pipes pipe)
+edit_loses_none : (w : World) (bytes : List ℕ) (e : FileEdit) (pipe : ℕ) (there : List ℕ) → takes_none e ≡ true → slot w.pipes pipe ≡ Some there →
+    HoldsAfter there (slot (with_files w bytes e).pipes pipe)
 edit_loses_none w bytes (on_files.Take q count) pipe there none h = cc
 edit_loses_none w bytes (on_files.Put q from count) pipe there none h = held_first _ w.pipes q pipe there h
 edit_loses_none w bytes on_files.Nothing pipe there none h = record { more = []; holds = h ∙ ap (λ (l : List ℕ). Some l) (sym (append-nil there)) }
@@ -107,21 +109,25 @@ first_loses_none p c o (Waits n edit) none =
     (λ _. record { files = none; made = refl; opened_none = refl }))
     (λ _. record { files = none; made = refl; opened_none = refl })
 
-write_takes_none : (bounds : Bounds) (w : World) (pipe : ℕ) (from : DataSource) (len moved : ℕ) → takes_none (edit_of (write_try bounds w pipe from len moved)) ≡ true
+write_takes_none : (bounds : Bounds) (w : World) (pipe : ℕ) (from : DataSource) (len moved : ℕ) → takes_none (edit_of (write_try bounds w pipe from len moved))
+    ≡ true
 write_takes_none bounds w pipe from len moved =
     let None_taken : Try → Type 0 = λ x. takes_none (edit_of x) ≡ true in
     let rest = len - moved in
     let room = room_in bounds w pipe in
     let large : Try = Waits (moved + room) (on_files.Put pipe from room) in
     let later = cond (leb len PIPE_BUF) (Waits moved on_files.Nothing) large in
-    try_has None_taken (not (has_reader w pipe)) (Ends (broken moved) on_files.Nothing) (cond (leb rest room) (Ends (Number (moved + rest)) (on_files.Put pipe from rest)) later) (λ _. refl)
+    try_has None_taken (not (has_reader w pipe)) (Ends (broken moved) on_files.Nothing)
+    (cond (leb rest room) (Ends (Number (moved + rest)) (on_files.Put pipe from rest)) later) (λ _. refl)
     (λ _. try_has None_taken (leb rest room) (Ends (Number (moved + rest)) (on_files.Put pipe from rest)) later (λ _. refl)
     (λ _. try_has None_taken (leb len PIPE_BUF) (Waits moved on_files.Nothing) large (λ _. refl) (λ _. refl)))
 
-write_to_loses_none : (bounds : Bounds) (w : World) (p : ℕ) (c : Call) (start : ℕ) (bytes : List ℕ) (o : OpenDescriptor) (on : Option ℕ) → LosesNone (write_to bounds w p c start bytes o on)
+write_to_loses_none : (bounds : Bounds) (w : World) (p : ℕ) (c : Call) (start : ℕ) (bytes : List ℕ) (o : OpenDescriptor) (on : Option ℕ) →
+    LosesNone (write_to bounds w p c start bytes o on)
 write_to_loses_none bounds w p c start bytes o None =
     let n = fitting bounds start bytes in
-    if_has LosesNone (eqb (length bytes) 0) (tells (Number 0)) (does (Number n) (on_files.Bytes (file_at o) start n) (on_table.Describe o.number (on_description.Offset (start + n))))
+    if_has LosesNone (eqb (length bytes) 0) (tells (Number 0))
+    (does (Number n) (on_files.Bytes (file_at o) start n) (on_table.Describe o.number (on_description.Offset (start + n))))
     (λ _. record { files = refl; made = refl; opened_none = refl }) (λ _. record { files = refl; made = refl; opened_none = refl })
 write_to_loses_none bounds w p c start bytes o (Some pipe) =
     let x = write_try bounds w pipe source.Act (length bytes) 0 in
@@ -129,7 +135,8 @@ write_to_loses_none bounds w p c start bytes o (Some pipe) =
     (λ _. first_loses_none p c o x (write_takes_none bounds w pipe source.Act (length bytes) 0))
 
 -- so the bytes that a pipe held stay the first
-still_first : (w : World) (bytes : List ℕ) (d : Decided) (pipe : ℕ) (there : List ℕ) → LosesNone d → slot w.pipes pipe ≡ Some there → HoldsAfter there (slot (changed w bytes d.change).pipes pipe)
+still_first : (w : World) (bytes : List ℕ) (d : Decided) (pipe : ℕ) (there : List ℕ) → LosesNone d → slot w.pipes pipe ≡ Some there →
+    HoldsAfter there (slot (changed w bytes d.change).pipes pipe)
 still_first w bytes d pipe there none stands =
     subst (λ (pipes : List (Option (List ℕ))). HoldsAfter there (slot pipes pipe)) (sym (pipes_after w bytes d.change none.made none.opened_none))
     (edit_loses_none w bytes d.change.files pipe there none.files stands)
@@ -155,7 +162,8 @@ some_try true x y h = cc
 some_try false x y h = cc
 
 -- a further try of a write takes nothing
-again_takes_none : (bounds : Bounds) (w : World) (p : ℕ) (parked : Parked) (fd : ℤ) (bytes : List ℕ) (x : Try) → parked.call ≡ call.Write fd bytes → (o : Option OpenDescriptor) →
+again_takes_none : (bounds : Bounds) (w : World) (p : ℕ) (parked : Parked) (fd : ℤ) (bytes : List ℕ) (x : Try) → parked.call ≡ call.Write fd bytes →
+    (o : Option OpenDescriptor) →
     try_opened bounds w p parked o ≡ Some x → takes_none (edit_of x) ≡ true
 again_takes_none bounds w p parked fd bytes x writes None h = cc
 again_takes_none bounds w p parked fd bytes x writes (Some o) h = by_pipe (pipe_at o.description.target) h
@@ -167,7 +175,8 @@ again_takes_none bounds w p parked fd bytes x writes (Some o) h = by_pipe (pipe_
         let is = some_try (write_ready bounds w q (length bytes)) tried x (sym (ap (try_again bounds w p o parked q) writes) ∙ h) in
         subst (λ y. takes_none (edit_of y) ≡ true) is (write_takes_none bounds w q (source.Parked p) (length bytes) parked.moved)
 
-resume_loses_none : (bounds : Bounds) (w : World) (p : ℕ) (parked : Parked) (fd : ℤ) (bytes : List ℕ) (d : Decided) → parked_of (slot w.processes p) ≡ Some parked →
+resume_loses_none : (bounds : Bounds) (w : World) (p : ℕ) (parked : Parked) (fd : ℤ) (bytes : List ℕ) (d : Decided) →
+    parked_of (slot w.processes p) ≡ Some parked →
     parked.call ≡ call.Write fd bytes → resume bounds w p ≡ Some d → LosesNone d
 resume_loses_none bounds w p parked fd bytes d is writes h = by_here (is_here (slot w.processes p)) h
   where
@@ -196,12 +205,14 @@ refused_whole w pipe bytes error = record { number = λ n h. cc; whole = λ n h.
 take_all : (bytes : List ℕ) → take (length bytes - 0) bytes ≡ bytes
 take_all bytes = grind (arith, common_steps)
 
-put_whole : (w : World) (pipe : ℕ) (bytes : List ℕ) → let rest = length bytes - 0 in Whole w pipe bytes (does (Number (0 + rest)) (on_files.Put pipe source.Act rest) on_table.Nothing)
+put_whole : (w : World) (pipe : ℕ) (bytes : List ℕ) → let rest = length bytes - 0 in
+    Whole w pipe bytes (does (Number (0 + rest)) (on_files.Put pipe source.Act rest) on_table.Nothing)
 put_whole w pipe bytes =
     let rest = length bytes - 0 in
     record {
       number = λ n h. let same : 0 + rest ≡ n = cc in omega (arith, same);
-      whole = λ n h. slot_edited w.pipes pipe (after_those (take rest bytes)) ∙ ap (λ (l : List ℕ). option_map (after_those l) (slot w.pipes pipe)) (take_all bytes);
+      whole = λ n h. slot_edited w.pipes pipe (after_those (take rest bytes)) ∙ ap (λ (l : List ℕ). option_map (after_those l) (slot w.pipes pipe))
+          (take_all bytes);
       none = λ never. absurd (never (0 + rest) refl);
     }
 
@@ -220,7 +231,8 @@ empty_whole w pipe = record { number = λ n h. cc; whole = λ n h. same_held (sl
 small_fits : (len : ℕ) → len ≤ PIPE_BUF → leb len PIPE_BUF ≢ false
 small_fits len h k = grind (arith, nat_tests)
 
-write_end_whole : (bounds : Bounds) (w : World) (p : ℕ) (c : Call) (bytes : List ℕ) (o : OpenDescriptor) (pipe : ℕ) → o.description.nonblock ≡ true → length bytes ≤ PIPE_BUF →
+write_end_whole : (bounds : Bounds) (w : World) (p : ℕ) (c : Call) (bytes : List ℕ) (o : OpenDescriptor) (pipe : ℕ) → o.description.nonblock ≡ true →
+    length bytes ≤ PIPE_BUF →
     Whole w pipe bytes (write_end bounds w p c bytes o pipe)
 write_end_whole bounds w p c bytes o pipe nonblock small =
     let Has : Decided → Type 0 = Whole w pipe bytes in
@@ -232,10 +244,12 @@ write_end_whole bounds w p c bytes o pipe nonblock small =
     let later = cond (leb len PIPE_BUF) (Waits 0 on_files.Nothing) large in
     if_has Has (eqb len 0) (tells (Number 0)) (first_try p c o (write_try bounds w pipe source.Act len 0))
     (λ none. subst (λ (l : List ℕ). Whole w pipe l (tells (Number 0))) (sym (no_bytes bytes none)) (empty_whole w pipe))
-    (λ _. try_has Tried (not (has_reader w pipe)) (Ends (Error EPIPE) on_files.Nothing) (cond (leb rest room) (Ends (Number (0 + rest)) (on_files.Put pipe source.Act rest)) later)
+    (λ _. try_has Tried (not (has_reader w pipe)) (Ends (Error EPIPE) on_files.Nothing)
+    (cond (leb rest room) (Ends (Number (0 + rest)) (on_files.Put pipe source.Act rest)) later)
     (λ _. refused_whole w pipe bytes EPIPE)
     (λ _. try_has Tried (leb rest room) (Ends (Number (0 + rest)) (on_files.Put pipe source.Act rest)) later (λ _. put_whole w pipe bytes)
-    (λ _. try_has Tried (leb len PIPE_BUF) (Waits 0 on_files.Nothing) large (λ _. rw nonblock (refused_whole w pipe bytes EAGAIN)) (λ over. absurd (small_fits len small over)))))
+    (λ _. try_has Tried (leb len PIPE_BUF) (Waits 0 on_files.Nothing) large (λ _. rw nonblock (refused_whole w pipe bytes EAGAIN))
+    (λ over. absurd (small_fits len small over)))))
 
 pub small_write_is_whole : SmallWriteIsWhole
 small_write_is_whole bounds w p fd bytes o pipe is on nonblock small =
@@ -245,7 +259,8 @@ small_write_is_whole bounds w p fd bytes o pipe is on nonblock small =
     (λ _. subst (λ x. Whole w pipe bytes (write_to bounds w p c start bytes o x)) (sym on) (write_end_whole bounds w p c bytes o pipe nonblock small))
 
 -- a FIFO without a pipe has the next one once an end of it is opened
-opened_has_next : (m : Mode) (pipe : ℕ) (x : Option File) (fifo : Fifo) → fifo_at x ≡ Some fifo → pipe_of_fifo (fifo_at (option_map (opened_file m pipe) x)) ≡ Some pipe
+opened_has_next : (m : Mode) (pipe : ℕ) (x : Option File) (fifo : Fifo) → fifo_at x ≡ Some fifo → pipe_of_fifo (fifo_at (option_map (opened_file m pipe) x))
+    ≡ Some pipe
 opened_has_next m pipe None fifo h = cc
 opened_has_next m pipe (Some (file.Regular bytes)) fifo h = cc
 opened_has_next m pipe (Some (file.Fifo x)) fifo h = by_mode m
@@ -255,7 +270,8 @@ opened_has_next m pipe (Some (file.Fifo x)) fifo h = by_mode m
     by_mode other = refl
 
 -- the world after an end of a FIFO without a pipe is opened, where the processes are these
-end_opens_empty : (w : World) (ps : List (Option Process)) (p : ℕ) (flags : OpenFlags) (n k : ℕ) (fifo : Fifo) → fifo_at (slot w.files n) ≡ Some fifo → fifo.pipe ≡ None →
+end_opens_empty : (w : World) (ps : List (Option Process)) (p : ℕ) (flags : OpenFlags) (n k : ℕ) (fifo : Fifo) → fifo_at (slot w.files n) ≡ Some fifo →
+    fifo.pipe ≡ None →
     lowest (table_of (slot w.processes p)) ≡ Some k → lowest (table_of (slot ps p)) ≡ Some k →
     OpensEmpty w (with_table (record w { processes = ps }) (opens_end w p flags n fifo).change.table) p n
 end_opens_empty w ps p flags n k fifo stands none low still =
@@ -293,11 +309,13 @@ open_end_empty w p name flags n k fifo stands none low =
 abbrev Reopens : World → ℕ → ℕ → Decided → Type 0
 Reopens w p n d = IsNoError d.outcome → OpensEmpty w (changed w [] d.change) p n
 
-open_found_empty : (w : World) (p : ℕ) (name : List ℕ) (flags : OpenFlags) (found : Option ℕ) (n k : ℕ) (fifo : Fifo) → found ≡ Some n → fifo_at (slot w.files n) ≡ Some fifo → fifo.pipe ≡ None →
+open_found_empty : (w : World) (p : ℕ) (name : List ℕ) (flags : OpenFlags) (found : Option ℕ) (n k : ℕ) (fifo : Fifo) → found ≡ Some n →
+    fifo_at (slot w.files n) ≡ Some fifo → fifo.pipe ≡ None →
     lowest (table_of (slot w.processes p)) ≡ Some k → OpensEmpty w (changed w [] (open_found w p name flags found).change) p n
 open_found_empty w p name flags found n k fifo is stands none low =
     subst (λ (x : Option ℕ). OpensEmpty w (changed w [] (open_found w p name flags x).change) p n) (sym is)
-    (subst (λ (x : Option Fifo). OpensEmpty w (changed w [] (open_there w p name flags n x).change) p n) (sym stands) (open_end_empty w p name flags n k fifo stands none low))
+    (subst (λ (x : Option Fifo). OpensEmpty w (changed w [] (open_there w p name flags n x).change) p n) (sym stands)
+    (open_end_empty w p name flags n k fifo stands none low))
 
 pub reopened_is_empty : ReopenedIsEmpty
 reopened_is_empty bounds w p name flags n fifo is stands none told =
@@ -306,19 +324,22 @@ reopened_is_empty bounds w p name flags n fifo is stands none told =
     (λ free _. let low = has_free w p name flags found free in open_found_empty w p name flags found n low.0 fifo is stands none low.1) told
 
 -- a FIFO of which an end is opened once more
-opened_stands_once : (m : Mode) (q : ℕ) (x : Option File) (fifo : Fifo) → fifo_at x ≡ Some fifo → fifo_at (option_map (opened_file m q) x) ≡ Some (opened_once m q fifo)
+opened_stands_once : (m : Mode) (q : ℕ) (x : Option File) (fifo : Fifo) → fifo_at x ≡ Some fifo → fifo_at (option_map (opened_file m q) x) ≡ Some
+    (opened_once m q fifo)
 opened_stands_once m q None fifo h = cc
 opened_stands_once m q (Some (file.Regular bytes)) fifo h = cc
 opened_stands_once m q (Some (file.Fifo x)) fifo h = let same : x ≡ fifo = cc in ap (λ (y : Fifo). Some (opened_once m q y)) same
 
 counted : (m : Mode) (q : ℕ) (fifo : Fifo) → m ≢ mode.ReadWrite →
-    ((opened_once m q fifo).reader_openings ≡ fifo.reader_openings + cond (can_read m) 1 0) × ((opened_once m q fifo).writer_openings ≡ fifo.writer_openings + cond (can_write m) 1 0)
+    ((opened_once m q fifo).reader_openings ≡ fifo.reader_openings + cond (can_read m) 1 0) ×
+    ((opened_once m q fifo).writer_openings ≡ fifo.writer_openings + cond (can_write m) 1 0)
 counted mode.Read q fifo one = (omega arith, omega arith)
 counted mode.Write q fifo one = (omega arith, omega arith)
 counted mode.ReadWrite q fifo one = absurd (one refl)
 
 -- the world after an end of a FIFO is opened, where the processes are these
-end_counts : (w : World) (ps : List (Option Process)) (p : ℕ) (flags : OpenFlags) (n : ℕ) (fifo : Fifo) → fifo_at (slot w.files n) ≡ Some fifo → mode_of flags ≢ mode.ReadWrite →
+end_counts : (w : World) (ps : List (Option Process)) (p : ℕ) (flags : OpenFlags) (n : ℕ) (fifo : Fifo) → fifo_at (slot w.files n) ≡ Some fifo →
+    mode_of flags ≢ mode.ReadWrite →
     CountsOpening (with_table (record w { processes = ps }) (opens_end w p flags n fifo).change.table) n (mode_of flags) fifo
 end_counts w ps p flags n fifo stands one =
     let m = mode_of flags in
@@ -331,24 +352,29 @@ end_counts w ps p flags n fifo stands one =
       writing = both.1;
     }
 
-open_end_counts : (w : World) (p : ℕ) (name : List ℕ) (flags : OpenFlags) (n : ℕ) (fifo : Fifo) → fifo_at (slot w.files n) ≡ Some fifo → mode_of flags ≢ mode.ReadWrite →
+open_end_counts : (w : World) (p : ℕ) (name : List ℕ) (flags : OpenFlags) (n : ℕ) (fifo : Fifo) → fifo_at (slot w.files n) ≡ Some fifo →
+    mode_of flags ≢ mode.ReadWrite →
     CountsOpening (changed w [] (open_end w p name flags n fifo).change) n (mode_of flags) fifo
 open_end_counts w p name flags n fifo stands one =
     let opens = opens_end w p flags n fifo in
     let parked = waiting (call.Open name flags) (free_descriptor w p) 0 (opposite_openings (mode_of flags) (Some fifo)) in
     let ps = edited p (with_parked (Some parked)) w.processes in
-    if_has (λ d. CountsOpening (changed w [] d.change) n (mode_of flags) fifo) (has flags flag.nonblocking || is_met w (mode_of flags) fifo) opens (parks p parked opens)
+    if_has (λ d. CountsOpening (changed w [] d.change) n (mode_of flags) fifo) (has flags flag.nonblocking || is_met w (mode_of flags) fifo) opens
+    (parks p parked opens)
     (λ _. end_counts w w.processes p flags n fifo stands one)
     (λ _. end_counts w ps p flags n fifo stands one)
 
-open_found_counts : (w : World) (p : ℕ) (name : List ℕ) (flags : OpenFlags) (found : Option ℕ) (n : ℕ) (fifo : Fifo) → found ≡ Some n → fifo_at (slot w.files n) ≡ Some fifo → mode_of flags ≢ mode.ReadWrite →
+open_found_counts : (w : World) (p : ℕ) (name : List ℕ) (flags : OpenFlags) (found : Option ℕ) (n : ℕ) (fifo : Fifo) → found ≡ Some n →
+    fifo_at (slot w.files n) ≡ Some fifo → mode_of flags ≢ mode.ReadWrite →
     CountsOpening (changed w [] (open_found w p name flags found).change) n (mode_of flags) fifo
 open_found_counts w p name flags found n fifo is stands one =
     subst (λ (x : Option ℕ). CountsOpening (changed w [] (open_found w p name flags x).change) n (mode_of flags) fifo) (sym is)
-    (subst (λ (x : Option Fifo). CountsOpening (changed w [] (open_there w p name flags n x).change) n (mode_of flags) fifo) (sym stands) (open_end_counts w p name flags n fifo stands one))
+    (subst (λ (x : Option Fifo). CountsOpening (changed w [] (open_there w p name flags n x).change) n (mode_of flags) fifo) (sym stands)
+    (open_end_counts w p name flags n fifo stands one))
 
 pub fifo_counts_openings : FifoCountsOpenings
 fifo_counts_openings bounds w p name flags n fifo is stands told =
     let one = fifo_opens_one_way bounds w p name flags n fifo is stands told in
-    page_has (λ d. IsNoError d.outcome → CountsOpening (changed w [] d.change) n (mode_of flags) fifo) (open_file w p name flags) (λ error no_error. absurd (no_error error refl))
+    page_has (λ d. IsNoError d.outcome → CountsOpening (changed w [] d.change) n (mode_of flags) fifo) (open_file w p name flags)
+    (λ error no_error. absurd (no_error error refl))
     (λ _ _. open_found_counts w p name flags (file_of name w.names) n fifo is stands one) told

@@ -71,7 +71,8 @@ stands_open : (w : World) (p : ℕ) (fd : ℤ) (o : OpenDescriptor) → IsOpenAt
 stands_open w p fd o at =
     subst (λ x. opened w p x ≡ Some o) at.fd_is (ap (opened_number w o.fd) at.entry_is ∙ ap (opened_description o.fd o.number) at.description_is)
 
-sees : (w : World) (p : ℕ) (fd : ℤ) (o : OpenDescriptor) (e : DescriptionEdit) → IsOpenAt w p fd o → description_at (with_edit w o.number e) p fd ≡ Some (described e o.description)
+sees : (w : World) (p : ℕ) (fd : ℤ) (o : OpenDescriptor) (e : DescriptionEdit) → IsOpenAt w p fd o → description_at (with_edit w o.number e) p fd ≡ Some
+    (described e o.description)
 sees w p fd o e at =
     let now : OpenDescriptor = record o { description = described e o.description } in
     let v = with_edit w o.number e in
@@ -82,7 +83,8 @@ sees w p fd o e at =
     }))
 
 -- a descriptor that leads to the number of a description leads to that
-leads_to : (w : World) (p : ℕ) (fd : ℤ) (o : OpenDescriptor) (found : Option OpenDescriptor) → slot w.descriptions o.number ≡ Some o.description → opened w p fd ≡ found →
+leads_to : (w : World) (p : ℕ) (fd : ℤ) (o : OpenDescriptor) (found : Option OpenDescriptor) → slot w.descriptions o.number ≡ Some o.description →
+    opened w p fd ≡ found →
     option_map (λ x. x.number) found ≡ Some o.number → (n : ℕ) × IsOpenAt w p fd (record o { fd = n })
 leads_to w p fd o None stands is h = cc
 leads_to w p fd o (Some x) stands is h =
@@ -116,7 +118,8 @@ exit_ends leaves w p =
 pub exit_frees : SweepLeaves → ExitFrees
 exit_frees leaves bounds w p s h =
     step_parts (λ t. (t.outcome ≡ Replied Done) × AfterExit w t.world p) bounds w p act.Exit s
-    (λ d is. subst (λ x. ((stepped w [] x).outcome ≡ Replied Done) × AfterExit w (stepped w [] x).world p) (where_may (is_some (slot w.processes p)) (exit p) d is)
+    (λ d is. subst (λ x. ((stepped w [] x).outcome ≡ Replied Done) × AfterExit w (stepped w [] x).world p)
+    (where_may (is_some (slot w.processes p)) (exit p) d is)
     (refl, exit_ends leaves w p)) h
 
 pub closing_closes : ClosingCloses

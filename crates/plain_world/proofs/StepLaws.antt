@@ -29,12 +29,15 @@ refused_step_keeps_world sound bounds w actor act s error other settled h told =
     (λ d is refused. ap (λ c. sweep (changed w (given act) c)) ((sound bounds w actor act d is).refusal other error refused) ∙ settled) h told
 
 pub refused_next_keeps_world : ActsAreSound → HistorySettles → RefusedNextKeepsWorld
-refused_next_keeps_world sound settles bounds h actor act s error other = refused_step_keeps_world sound bounds (world_of bounds h) actor act s error other (settles bounds h)
+refused_next_keeps_world sound settles bounds h actor act s error other = refused_step_keeps_world sound bounds (world_of bounds h) actor act s error other
+    (settles bounds h)
 
 -- what a join that is a step comes to
-join_step : (Has : Stepped → Type 0) (bounds : Bounds) (w : World) (actor : ℕ) (s : Stepped) → Has (stepped w [] (decided_by (join w))) → step bounds w actor act.Join ≡ Some s → Has s
+join_step : (Has : Stepped → Type 0) (bounds : Bounds) (w : World) (actor : ℕ) (s : Stepped) → Has (stepped w [] (decided_by (join w))) →
+    step bounds w actor act.Join ≡ Some s → Has s
 join_step Has bounds w actor s has h =
-    step_parts Has bounds w actor act.Join s (λ d is. subst (λ (x : Decided). Has (stepped w [] x)) (where_may (eqb actor (length w.processes)) (decided_by (join w)) d is) has) h
+    step_parts Has bounds w actor act.Join s (λ d is. subst (λ (x : Decided). Has (stepped w [] x))
+    (where_may (eqb actor (length w.processes)) (decided_by (join w)) d is) has) h
 
 pub join_adds : JoinAdds
 join_adds bounds w actor s room h = join_step (Joins w) bounds w actor s (rw room (record { number = refl; processes = refl })) h
@@ -43,7 +46,8 @@ pub full_join_refused : FullJoinRefused
 full_join_refused bounds w actor s full h = join_step (λ t. t ≡ record { world = sweep w; outcome = Replied (Error EAGAIN) }) bounds w actor s (rw full refl) h
 
 pub offsets_are_apart : ActsAreSound → OffsetsAreApart
-offsets_are_apart sound bounds w actor act d n is other below = offset_stays w (given act) d.change n below (λ moved. other ((sound bounds w actor act d is).own n moved))
+offsets_are_apart sound bounds w actor act d n is other below = offset_stays w (given act) d.change n below
+    (λ moved. other ((sound bounds w actor act d is).own n moved))
 
 pub offsets_stay_apart : ActsAreSound → SweepLeaves → OffsetsStayApart
 offsets_stay_apart sound leaves bounds w actor act s n description h other below there =
@@ -55,7 +59,8 @@ offsets_stay_apart sound leaves bounds w actor act s n description h other below
 
 pub takes_few : ActsAreSound → TakesFew
 takes_few sound bounds w actor act s h =
-    step_parts (λ t. took w (record { actor = actor; act = act; outcome = t.outcome }) ≤ length (data_of w actor act)) bounds w actor act s (λ d is. (sound bounds w actor act d is).few) h
+    step_parts (λ t. took w (record { actor = actor; act = act; outcome = t.outcome }) ≤ length (data_of w actor act)) bounds w actor act s
+    (λ d is. (sound bounds w actor act d is).few) h
 
 free_slot : {T : Type 0} (x : Option T) → is_none x ≡ true → x ≡ None
 free_slot None e = refl
@@ -83,7 +88,8 @@ each_from : (bounds : Bounds) (w : World) (before rest : List Record) (r : Recor
 each_from bounds w [] rest r is_legal = is_legal.0
 each_from bounds w (x ∷ before) rest r is_legal = each_from bounds (after bounds w x) before rest r is_legal.1
 
-only_from : (bounds : Bounds) (w : World) (h : List Record) → ((before rest : List Record) (r : Record) → h ≡ before ++ r ∷ rest → AnsweredFrom bounds w before r) → legal_from bounds w h
+only_from : (bounds : Bounds) (w : World) (h : List Record) → ((before rest : List Record) (r : Record) → h ≡ before ++ r ∷ rest →
+    AnsweredFrom bounds w before r) → legal_from bounds w h
 only_from bounds w [] each = tt
 only_from bounds w (x ∷ h) each = (each [] h x refl, only_from bounds (after bounds w x) h (λ before rest r is. each (x ∷ before) rest r (ap (λ l. x ∷ l) is)))
 

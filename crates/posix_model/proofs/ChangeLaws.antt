@@ -160,8 +160,10 @@ had_set (z ∷ xs) (suc m) y none (suc g) p h =
     record { fifo = rest.fifo; stands = rest.stands; its_pipe = rest.its_pipe }
 
 -- a file without a pipe is added
-had_push : (xs : List (Option File)) (y : File) → ((p : ℕ) (x : Fifo) → y ≡ file.Fifo x → x.pipe ≡ Some p → ⊥) → (g p : ℕ) → HasPipe (xs ++ Some y ∷ []) g p → HasPipe xs g p
-had_push [] y none zero p h = let e : Some y ≡ Some (file.Fifo h.fifo) = h.stands in let same : y ≡ file.Fifo h.fifo = cc in absurd (none p h.fifo same h.its_pipe)
+had_push : (xs : List (Option File)) (y : File) → ((p : ℕ) (x : Fifo) → y ≡ file.Fifo x → x.pipe ≡ Some p → ⊥) → (g p : ℕ) → HasPipe (xs ++ Some y ∷ []) g p →
+    HasPipe xs g p
+had_push [] y none zero p h = let e : Some y ≡ Some (file.Fifo h.fifo) = h.stands in let same : y ≡ file.Fifo h.fifo = cc in
+    absurd (none p h.fifo same h.its_pipe)
 had_push [] y none (suc g) p h = let e : None ≡ Some (file.Fifo h.fifo) = h.stands in cc
 had_push (z ∷ xs) y none zero p h = record { fifo = h.fifo; stands = h.stands; its_pipe = h.its_pipe }
 had_push (z ∷ xs) y none (suc g) p h =
@@ -169,10 +171,12 @@ had_push (z ∷ xs) y none (suc g) p h =
     record { fifo = rest.fifo; stands = rest.stands; its_pipe = rest.its_pipe }
 
 -- the pipe of a FIFO is there
-pub pipe_there : (pipes : List (Option (List ℕ))) (files : List (Option File)) → EachThere (PipeIsThere pipes) files → (g p : ℕ) → HasPipe files g p → IsThere pipes p
+pub pipe_there : (pipes : List (Option (List ℕ))) (files : List (Option File)) → EachThere (PipeIsThere pipes) files → (g p : ℕ) → HasPipe files g p →
+    IsThere pipes p
 pipe_there pipes files fifos g p h = fifos g (file.Fifo h.fifo) h.stands p h.its_pipe
 
-target_edited : (P : Target → Type 0) (f : Description → Description) (stays : StaysOpen f) (old : Option Description) (d : Description) → ((x : Description) → old ≡ Some x → P x.target) → option_map f old ≡ Some d →
+target_edited : (P : Target → Type 0) (f : Description → Description) (stays : StaysOpen f) (old : Option Description) (d : Description) →
+    ((x : Description) → old ≡ Some x → P x.target) → option_map f old ≡ Some d →
     P d.target
 target_edited P f stays None d all h = cc
 target_edited P f stays (Some x) d all h = let e : f x ≡ d = cc in subst (λ (y : Description). P y.target) e (subst P (sym (stays.target x)) (all x refl))
@@ -183,7 +187,8 @@ stays_open (on_description.Offset offset) = record { target = λ d. refl; mode =
 stays_open other = record { target = λ d. refl; mode = λ d. refl }
 
 -- a description has another offset, or other flags
-pub description_goes : (w : World) (n : ℕ) (f : Description → Description) → StaysOpen f → IsWhole w → Goes w (record w { descriptions = edited n f w.descriptions })
+pub description_goes : (w : World) (n : ℕ) (f : Description → Description) → StaysOpen f → IsWhole w →
+    Goes w (record w { descriptions = edited n f w.descriptions })
 description_goes w n f stays whole =
     let ds = w.descriptions in
     let moved = option_map f (slot ds n) in
@@ -205,9 +210,11 @@ description_goes w n f stays whole =
         descriptions = each_set (λ d. TargetIsThere w.files w.pipes d.target) ds n moved whole.descriptions
             (λ d h. target_edited (TargetIsThere w.files w.pipes) f stays (slot ds n) d (whole.descriptions n) h);
         fifos = whole.fifos;
-        ends = each_set (λ d. IsItsFifo w.files d.target) ds n moved whole.ends (λ d h. target_edited (IsItsFifo w.files) f stays (slot ds n) d (whole.ends n) h);
+        ends = each_set (λ d. IsItsFifo w.files d.target) ds n moved whole.ends (λ d h. target_edited (IsItsFifo w.files) f stays (slot ds n) d
+            (whole.ends n) h);
         apart = whole.apart;
-        pipes = each_set (λ d. IsOnItsPipe w.files d.target) ds n moved whole.pipes (λ d h. target_edited (IsOnItsPipe w.files) f stays (slot ds n) d (whole.pipes n) h);
+        pipes = each_set (λ d. IsOnItsPipe w.files d.target) ds n moved whole.pipes (λ d h. target_edited (IsOnItsPipe w.files) f stays (slot ds n) d
+            (whole.pipes n) h);
         processes = λ p process at m x h. adds.there x (whole.processes p process at m x h);
         waits = whole.waits;
         tables = whole.tables;
@@ -215,7 +222,8 @@ description_goes w n f stays whole =
     }
 
 -- the files of a world are others, of which none went, and none has a pipe that it had not or lost one
-files_go : (w : World) (files : List (Option File)) → IsWhole w → FilesAdd w.files files → EachThere (PipeIsThere w.pipes) files → ((g p : ℕ) → HasPipe files g p → HasPipe w.files g p) →
+files_go : (w : World) (files : List (Option File)) → IsWhole w → FilesAdd w.files files → EachThere (PipeIsThere w.pipes) files →
+    ((g p : ℕ) → HasPipe files g p → HasPipe w.files g p) →
     PipesStay w.files files → Goes w (record w { files = files })
 files_go w files whole add fifos had stay = record {
   rises = record {
@@ -245,8 +253,10 @@ pub bytes_go : (w : World) (f : ℕ) (bytes : List ℕ) → IsWhole w → is_reg
 bytes_go w f bytes whole there =
     let parts = regular_parts (slot w.files f) there in
     files_go w (set w.files f (Some (file.Regular bytes))) whole (files_set w.files f (Some (file.Regular bytes)) (sym parts.0) (sym there) (sym parts.1))
-    (each_set (PipeIsThere w.pipes) w.files f (Some (file.Regular bytes)) whole.fifos (λ x h. let e : file.Regular bytes ≡ x = cc in subst (PipeIsThere w.pipes) e tt))
-    (had_set w.files f (Some (file.Regular bytes)) (λ p x h. cc)) (λ g p h. test_set pipe_in w.files f (Some (file.Regular bytes)) g (sym (regular_has_none (slot w.files f) there)) ∙ h)
+    (each_set (PipeIsThere w.pipes) w.files f (Some (file.Regular bytes)) whole.fifos (λ x h. let e : file.Regular bytes ≡ x = cc in
+    subst (PipeIsThere w.pipes) e tt))
+    (had_set w.files f (Some (file.Regular bytes)) (λ p x h. cc)) (λ g p h. test_set pipe_in w.files f (Some (file.Regular bytes)) g
+    (sym (regular_has_none (slot w.files f) there)) ∙ h)
 
 -- a name is put at a file that is there
 pub names_with : (files : List (Option File)) (name : List ℕ) (f : ℕ) (es : Entries) → IsThere files f →
@@ -262,11 +272,13 @@ names_with files name f (e ∷ es) there all =
     ]
 
 -- and some names are taken away
-pub names_without : (files : List (Option File)) (name : List ℕ) (es : Entries) → All (λ entry. IsThere files entry.1) es → All (λ entry. IsThere files entry.1) (without_name name es)
+pub names_without : (files : List (Option File)) (name : List ℕ) (es : Entries) → All (λ entry. IsThere files entry.1) es →
+    All (λ entry. IsThere files entry.1) (without_name name es)
 names_without files name [] all = all
 names_without files name (e ∷ es) all =
     let rest = names_without files name es (All-tail (λ entry. IsThere files entry.1) e es all) in
-    elim (not (eq_by_cmp (slice_cmp nat_cmp) name e.0)) as (λ b. All (λ entry. IsThere files entry.1) (cond b (e ∷ without_name name es) (without_name name es))) [
+    elim (not (eq_by_cmp (slice_cmp nat_cmp) name e.0)) as
+    (λ b. All (λ entry. IsThere files entry.1) (cond b (e ∷ without_name name es) (without_name name es))) [
       | true ↦ All-cons (λ entry. IsThere files entry.1) e (without_name name es) (All-head (λ entry. IsThere files entry.1) e es all) rest
       | false ↦ rest
     ]
@@ -276,17 +288,47 @@ pub names_go : (w : World) (names : Entries) → IsWhole w → All (λ entry. Is
 names_go w names whole all =
     let same = same_rises w in
     record {
-      rises = record { files = same.files; pipes = same.pipes; descriptions = same.descriptions; processes = same.processes; kinds = same.kinds; targets = same.targets; modes = same.modes };
-      whole = record { names = all; descriptions = whole.descriptions; fifos = whole.fifos; ends = whole.ends; apart = whole.apart; pipes = whole.pipes; processes = whole.processes; waits = whole.waits; tables = whole.tables };
+      rises = record {
+        files = same.files;
+        pipes = same.pipes;
+        descriptions = same.descriptions;
+        processes = same.processes;
+        kinds = same.kinds;
+        targets =
+            same.targets;
+        modes = same.modes;
+      };
+      whole = record {
+        names = all;
+        descriptions = whole.descriptions;
+        fifos = whole.fifos;
+        ends = whole.ends;
+        apart = whole.apart;
+        pipes = whole.pipes;
+        processes = whole.processes;
+        waits = whole.waits;
+        tables = whole.tables;
+      };
     }
 
 -- a new file, which has no pipe
-pub created_goes : (w : World) (name : List ℕ) (new : File) → IsWhole w → PipeIsThere w.pipes new → ((p : ℕ) (x : Fifo) → new ≡ file.Fifo x → x.pipe ≡ Some p → ⊥) → Goes w (created w name new)
+pub created_goes : (w : World) (name : List ℕ) (new : File) → IsWhole w → PipeIsThere w.pipes new →
+    ((p : ℕ) (x : Fifo) → new ≡ file.Fifo x → x.pipe ≡ Some p → ⊥) → Goes w (created w name new)
 created_goes w name new whole there none =
     let files = w.files ++ Some new ∷ [] in
-    let moved = files_go w files whole (files_push w.files new) (each_push (PipeIsThere w.pipes) w.files new whole.fifos there) (had_push w.files new none) (stay_push w.files new) in
+    let moved = files_go w files whole (files_push w.files new) (each_push (PipeIsThere w.pipes) w.files new whole.fifos there) (had_push w.files new none)
+    (stay_push w.files new) in
     record {
-      rises = record { files = moved.rises.files; pipes = moved.rises.pipes; descriptions = moved.rises.descriptions; processes = moved.rises.processes; kinds = moved.rises.kinds; targets = moved.rises.targets; modes = moved.rises.modes };
+      rises = record {
+        files = moved.rises.files;
+        pipes = moved.rises.pipes;
+        descriptions = moved.rises.descriptions;
+        processes = moved.rises.processes;
+        kinds =
+            moved.rises.kinds;
+        targets = moved.rises.targets;
+        modes = moved.rises.modes;
+      };
       whole = record {
         names = names_with files name (length w.files) w.names (pushed_there w.files new) moved.whole.names;
         descriptions = moved.whole.descriptions;
@@ -315,14 +357,16 @@ entry_edited ds fd entry (Some y) x new all h =
 abbrev pub HasAll : Process → Type 0
 HasAll process = length process.table ≡ OPEN_MAX
 
-entry_keeps : (fd : ℕ) (entry : Option ℕ) (old : Option Process) (x : Process) → ((y : Process) → old ≡ Some y → HasAll y) → option_map (with_entry fd entry) old ≡ Some x → HasAll x
+entry_keeps : (fd : ℕ) (entry : Option ℕ) (old : Option Process) (x : Process) → ((y : Process) → old ≡ Some y → HasAll y) →
+    option_map (with_entry fd entry) old ≡ Some x → HasAll x
 entry_keeps fd entry None x all h = cc
 entry_keeps fd entry (Some y) x all h =
     let e : with_entry fd entry y ≡ x = cc in
     subst HasAll e (length-set y.table fd entry ∙ all y refl)
 
 -- what holds of each process holds of it after an edit that keeps it
-edited_has : (Has : Process → Type 0) (edit : Process → Process) (old : Option Process) (x : Process) → ((y : Process) → Has y → Has (edit y)) → ((y : Process) → old ≡ Some y → Has y) →
+edited_has : (Has : Process → Type 0) (edit : Process → Process) (old : Option Process) (x : Process) → ((y : Process) → Has y → Has (edit y)) →
+    ((y : Process) → old ≡ Some y → Has y) →
     option_map edit old ≡ Some x → Has x
 edited_has Has edit None x keeps all h = cc
 edited_has Has edit (Some y) x keeps all h = let e : edit y ≡ x = cc in subst Has e (keeps y (all y refl))
@@ -350,7 +394,8 @@ descriptor_goes w process fd entry whole new =
         ends = whole.ends;
         apart = whole.apart;
         pipes = whole.pipes;
-        waits = each_set WaitsForFew w.processes process edited whole.waits (λ x h. edited_has WaitsForFew (with_entry fd entry) (slot w.processes process) x (λ y has. has) (whole.waits process) h);
+        waits = each_set WaitsForFew w.processes process edited whole.waits (λ x h. edited_has WaitsForFew (with_entry fd entry) (slot w.processes process) x
+            (λ y has. has) (whole.waits process) h);
         processes = each_set (Refers w.descriptions) w.processes process edited whole.processes
             (λ x h. entry_edited w.descriptions fd entry (slot w.processes process) x new (whole.processes process) h);
         tables = each_set HasAll w.processes process edited whole.tables (λ x h. entry_keeps fd entry (slot w.processes process) x (whole.tables process) h);
@@ -358,7 +403,8 @@ descriptor_goes w process fd entry whole new =
     }
 
 -- one more description, of what is there
-described_goes : (w : World) (d : Description) → IsWhole w → TargetIsThere w.files w.pipes d.target → IsItsFifo w.files d.target → IsOnItsPipe w.files d.target → Goes w (record w { descriptions = w.descriptions ++ Some d ∷ [] })
+described_goes : (w : World) (d : Description) → IsWhole w → TargetIsThere w.files w.pipes d.target → IsItsFifo w.files d.target →
+    IsOnItsPipe w.files d.target → Goes w (record w { descriptions = w.descriptions ++ Some d ∷ [] })
 described_goes w d whole there its on =
     let adds = adds_push w.descriptions (Some d) in
     record {
@@ -385,30 +431,53 @@ described_goes w d whole there its on =
     }
 
 -- the processes of a world are others, of which each refers to what is there, waits for few bytes and has all its descriptors
-processes_go : (w : World) (ps : List (Option Process)) → IsWhole w → Rises w.processes ps → EachThere (Refers w.descriptions) ps → EachThere WaitsForFew ps → EachThere HasAll ps →
+processes_go : (w : World) (ps : List (Option Process)) → IsWhole w → Rises w.processes ps → EachThere (Refers w.descriptions) ps → EachThere WaitsForFew ps →
+    EachThere HasAll ps →
     Goes w (record w { processes = ps })
 processes_go w ps whole rises refers few all =
     let same = same_rises w in
     record {
-      rises = record { files = same.files; pipes = same.pipes; descriptions = same.descriptions; processes = rises; kinds = same.kinds; targets = same.targets; modes = same.modes };
-      whole = record { names = whole.names; descriptions = whole.descriptions; fifos = whole.fifos; ends = whole.ends; apart = whole.apart; pipes = whole.pipes; processes = refers; waits = few; tables = all };
+      rises = record {
+        files = same.files;
+        pipes = same.pipes;
+        descriptions = same.descriptions;
+        processes = rises;
+        kinds = same.kinds;
+        targets = same.targets;
+        modes = same.modes;
+      };
+      whole = record {
+        names = whole.names;
+        descriptions = whole.descriptions;
+        fifos = whole.fifos;
+        ends = whole.ends;
+        apart = whole.apart;
+        pipes = whole.pipes;
+        processes = refers;
+        waits = few;
+        tables = all;
+      };
     }
 
-pub added_goes : (w : World) (table : List (Option ℕ)) (attached : Bool) → IsWhole w → CanAdd w table → Goes w (with_processes w (on_process.Add table attached))
+pub added_goes : (w : World) (table : List (Option ℕ)) (attached : Bool) → IsWhole w → CanAdd w table →
+    Goes w (with_processes w (on_process.Add table attached))
 added_goes w table attached whole can =
     let child = process_with table attached in
     processes_go w (w.processes ++ Some child ∷ []) whole (adds_push w.processes (Some child)).rises
-    (each_push (Refers w.descriptions) w.processes child whole.processes can.there) (each_push WaitsForFew w.processes child whole.waits (λ parked h. cc)) (each_push HasAll w.processes child whole.tables can.all)
+    (each_push (Refers w.descriptions) w.processes child whole.processes can.there) (each_push WaitsForFew w.processes child whole.waits (λ parked h. cc))
+    (each_push HasAll w.processes child whole.tables can.all)
 
 -- a process is another, with the descriptors that it had, and waits for few bytes
-pub process_goes : (w : World) (p : ℕ) (edit : Process → Process) → IsWhole w → ((y : Process) → (edit y).table ≡ y.table) → ((y : Process) → WaitsForFew y → WaitsForFew (edit y)) →
+pub process_goes : (w : World) (p : ℕ) (edit : Process → Process) → IsWhole w → ((y : Process) → (edit y).table ≡ y.table) →
+    ((y : Process) → WaitsForFew y → WaitsForFew (edit y)) →
     Goes w (record w { processes = set w.processes p (option_map edit (slot w.processes p)) })
 process_goes w p edit whole same few =
     let old = slot w.processes p in
     let new = option_map edit old in
     let stays : (P : List (Option ℕ) → Type 0) (y : Process) → P y.table → P (edit y).table = λ P y h. subst P (sym (same y)) h in
     processes_go w (set w.processes p new) whole (adds_edited w.processes p edit).rises
-    (each_set (Refers w.descriptions) w.processes p new whole.processes (λ x h. edited_has (Refers w.descriptions) edit old x (stays (EachThere (IsThere w.descriptions))) (whole.processes p) h))
+    (each_set (Refers w.descriptions) w.processes p new whole.processes
+    (λ x h. edited_has (Refers w.descriptions) edit old x (stays (EachThere (IsThere w.descriptions))) (whole.processes p) h))
     (each_set WaitsForFew w.processes p new whole.waits (λ x h. edited_has WaitsForFew edit old x few (whole.waits p) h))
     (each_set HasAll w.processes p new whole.tables (λ x h. edited_has HasAll edit old x (stays (λ table. length table ≡ OPEN_MAX)) (whole.tables p) h))
 
@@ -417,26 +486,49 @@ pub few_parked : (parked : Parked) → AsksFew parked.call → (y : Process) →
 few_parked parked few y other h = let same : parked ≡ other = cc in subst (λ (q : Parked). AsksFew q.call) same few
 
 -- and it goes on waiting in the same call
-pub few_moved : (moved : ℕ) (old : Option Parked) (other : Parked) → ((q : Parked) → old ≡ Some q → AsksFew q.call) → option_map (moved_in moved) old ≡ Some other → AsksFew other.call
+pub few_moved : (moved : ℕ) (old : Option Parked) (other : Parked) → ((q : Parked) → old ≡ Some q → AsksFew q.call) →
+    option_map (moved_in moved) old ≡ Some other → AsksFew other.call
 few_moved moved None other few h = cc
 few_moved moved (Some q) other few h = let same : moved_in moved q ≡ other = cc in subst (λ (q : Parked). AsksFew q.call) same (few q refl)
 
 pub exited_goes : (w : World) (p : ℕ) → IsWhole w → Goes w (with_processes w (on_process.Exit p))
 exited_goes w p whole =
     processes_go w (set w.processes p None) whole (rises_emptied w.processes p)
-    (each_set (Refers w.descriptions) w.processes p None whole.processes (λ x h. cc)) (each_set WaitsForFew w.processes p None whole.waits (λ x h. cc)) (each_set HasAll w.processes p None whole.tables (λ x h. cc))
+    (each_set (Refers w.descriptions) w.processes p None whole.processes (λ x h. cc)) (each_set WaitsForFew w.processes p None whole.waits (λ x h. cc))
+    (each_set HasAll w.processes p None whole.tables (λ x h. cc))
 
 pub closed_goes : (w : World) → IsWhole w → Goes w (with_processes w on_process.Close)
 closed_goes w whole =
     let same = same_rises w in
     record {
-      rises = record { files = same.files; pipes = same.pipes; descriptions = same.descriptions; processes = same.processes; kinds = same.kinds; targets = same.targets; modes = same.modes };
-      whole = record { names = whole.names; descriptions = whole.descriptions; fifos = whole.fifos; ends = whole.ends; apart = whole.apart; pipes = whole.pipes; processes = whole.processes; waits = whole.waits; tables = whole.tables };
+      rises = record {
+        files = same.files;
+        pipes = same.pipes;
+        descriptions = same.descriptions;
+        processes = same.processes;
+        kinds = same.kinds;
+        targets =
+            same.targets;
+        modes = same.modes;
+      };
+      whole = record {
+        names = whole.names;
+        descriptions = whole.descriptions;
+        fifos = whole.fifos;
+        ends = whole.ends;
+        apart = whole.apart;
+        pipes = whole.pipes;
+        processes = whole.processes;
+        waits = whole.waits;
+        tables = whole.tables;
+      };
     }
 
-pub opened_goes : (w : World) (process fd : ℕ) (d : Description) → IsWhole w → TargetIsThere w.files w.pipes d.target → IsItsFifo w.files d.target → IsOnItsPipe w.files d.target → Goes w (with_description w process fd d)
+pub opened_goes : (w : World) (process fd : ℕ) (d : Description) → IsWhole w → TargetIsThere w.files w.pipes d.target → IsItsFifo w.files d.target →
+    IsOnItsPipe w.files d.target → Goes w (with_description w process fd d)
 opened_goes w process fd d whole there its on =
     let more : World = record w { descriptions = w.descriptions ++ Some d ∷ [] } in
     let first = described_goes w d whole there its on in
-    let at_end : (n : ℕ) → Some (length w.descriptions) ≡ Some n → IsThere more.descriptions n = λ n h. let same : length w.descriptions ≡ n = cc in subst (IsThere more.descriptions) same (pushed_there w.descriptions d) in
+    let at_end : (n : ℕ) → Some (length w.descriptions) ≡ Some n → IsThere more.descriptions n = λ n h. let same : length w.descriptions ≡ n = cc in
+    subst (IsThere more.descriptions) same (pushed_there w.descriptions d) in
     goes_twice w more (with_description w process fd d) first (descriptor_goes more process fd (Some (length w.descriptions)) first.whole at_end)

@@ -61,7 +61,8 @@ freed_refers m zero (x ∷ table) h = absurd (omega (arith, h))
 freed_refers m (suc n) (x ∷ table) h = ap (count_by (refers m)) (freed_cons n x table) ∙ freed_refers m n table (omega (arith, h))
 
 -- a table after its entry is written, and after those below a number are closed
-table_edited : (fd : ℕ) (entry : Option ℕ) (ps : List (Option Process)) (p : ℕ) → table_of (slot (edited p (with_entry fd entry) ps) p) ≡ set (table_of (slot ps p)) fd entry
+table_edited : (fd : ℕ) (entry : Option ℕ) (ps : List (Option Process)) (p : ℕ) → table_of (slot (edited p (with_entry fd entry) ps) p) ≡ set
+    (table_of (slot ps p)) fd entry
 table_edited fd entry [] p = refl
 table_edited fd entry (None ∷ ps) zero = refl
 table_edited fd entry (Some process ∷ ps) zero = refl
@@ -76,7 +77,8 @@ refs_of_table m None = refl
 refs_of_table m (Some process) = refl
 
 pub closed_is_bare : ClosedIsBare
-closed_is_bare w p n m within = refs_of_table m (slot (closed_below p n w).processes p) ∙ (ap (count_by (refers m)) (table_closed p n w) ∙ freed_refers m n (table_of (slot w.processes p)) within)
+closed_is_bare w p n m within = refs_of_table m (slot (closed_below p n w).processes p) ∙
+    (ap (count_by (refers m)) (table_closed p n w) ∙ freed_refers m n (table_of (slot w.processes p)) within)
 
 pub exit_closes : ExitCloses
 exit_closes w p n settled within =
@@ -91,14 +93,16 @@ exit_closes w p n settled within =
     })
 
 -- an entry that is written twice
-edited_twice : (fd : ℕ) (a b : Option ℕ) (ps : List (Option Process)) (p : ℕ) → edited p (with_entry fd b) (edited p (with_entry fd a) ps) ≡ edited p (with_entry fd b) ps
+edited_twice : (fd : ℕ) (a b : Option ℕ) (ps : List (Option Process)) (p : ℕ) → edited p (with_entry fd b) (edited p (with_entry fd a) ps) ≡ edited p
+    (with_entry fd b) ps
 edited_twice fd a b [] p = refl
 edited_twice fd a b (None ∷ ps) zero = refl
 edited_twice fd a b (Some process ∷ ps) zero = ap (λ table. Some (record process { table = table }) ∷ ps) (set-set process.table fd a b)
 edited_twice fd a b (x ∷ ps) (suc p) = ap (λ ys. x ∷ ys) (edited_twice fd a b ps p)
 
 -- a descriptor that is set adds no reference to any other description
-entry_elsewhere : (m fd n : ℕ) → m ≢ n → (x : Option Process) → refs_of m (option_map (with_entry fd (Some n)) x) ≤ refs_of m (option_map (with_entry fd None) x)
+entry_elsewhere : (m fd n : ℕ) → m ≢ n → (x : Option Process) → refs_of m (option_map (with_entry fd (Some n)) x) ≤ refs_of m
+    (option_map (with_entry fd None) x)
 entry_elsewhere m fd n apart None = omega arith
 entry_elsewhere m fd n apart (Some process) =
     let nothing : one (refers m (Some n)) ≡ 0 = rw (other_number m n apart) refl in
@@ -117,5 +121,10 @@ close_then_set w p fd n still =
       | inr other ↦
           let x = slot w.processes p in
           let apart : m ≢ n = λ e. other.0 (sym e) in
-          omega (arith, more, sum_of_less (refs_of m) w.processes p (option_map (with_entry fd (Some n)) x) (option_map (with_entry fd None) x) (entry_elsewhere m fd n apart x))
+          omega (
+            arith,
+            more,
+            sum_of_less (refs_of m) w.processes p (option_map (with_entry fd (Some n)) x) (option_map (with_entry fd None) x)
+                (entry_elsewhere m fd n apart x),
+          )
     ]

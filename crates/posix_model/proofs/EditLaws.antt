@@ -28,12 +28,14 @@ no_pipe : (p : ℕ) (x : Fifo) → file.Fifo unopened ≡ file.Fifo x → x.pipe
 no_pipe p x h k = let same : unopened ≡ x = cc in let none : None ≡ Some p = ap (λ (y : Fifo). y.pipe) same ∙ k in cc
 
 -- after an edit of names each of them leads to what is there
-names_lead : (w : World) (e : NameEdit) → All (λ entry. IsThere w.files entry.1) w.names → NamesFit w e → All (λ entry. IsThere w.files entry.1) (renamed e w.names)
+names_lead : (w : World) (e : NameEdit) → All (λ entry. IsThere w.files entry.1) w.names → NamesFit w e →
+    All (λ entry. IsThere w.files entry.1) (renamed e w.names)
 names_lead w (on_names.Add name f) all fits = names_with w.files name f w.names fits all
 names_lead w (on_names.Remove name) all fits = names_without w.files name w.names all
 names_lead w (on_names.Move old new) all fits =
     let fewer = without_name new w.names in
-    names_with w.files new (unwrap_or (file_of old w.names) 0) (without_name old fewer) fits (names_without w.files old fewer (names_without w.files new w.names all))
+    names_with w.files new (unwrap_or (file_of old w.names) 0) (without_name old fewer) fits
+    (names_without w.files old fewer (names_without w.files new w.names all))
 
 -- one case for each edit
 files_go_on : (w : World) (bytes : List ℕ) (e : FileEdit) → IsWhole w → FilesFit w e → Goes w (with_files w bytes e)
@@ -46,14 +48,16 @@ files_go_on w bytes (on_files.MakeFifo name) whole fits = created_goes w name (f
 files_go_on w bytes (on_files.Put pipe source count) whole fits =
     let new = after_those (take count (bytes_from w bytes source)) in
     pipes_go w (set w.pipes pipe (option_map new (slot w.pipes pipe))) whole (adds_edited w.pipes pipe new)
-files_go_on w bytes (on_files.Take pipe count) whole fits = pipes_go w (set w.pipes pipe (option_map (drop count) (slot w.pipes pipe))) whole (adds_edited w.pipes pipe (drop count))
+files_go_on w bytes (on_files.Take pipe count) whole fits = pipes_go w (set w.pipes pipe (option_map (drop count) (slot w.pipes pipe))) whole
+    (adds_edited w.pipes pipe (drop count))
 
 processes_go_on : (w : World) (e : ProcessEdit) → IsWhole w → ProcessFits w e → Goes w (with_processes w e)
 processes_go_on w on_process.Nothing whole fits = goes_nowhere w whole
 processes_go_on w (on_process.Add table attached) whole fits = added_goes w table attached whole fits
 processes_go_on w (on_process.Attach p) whole fits = process_goes w p with_connection whole (λ y. refl) (λ y few. few)
 processes_go_on w (on_process.Park p parked) whole fits = process_goes w p (with_parked (Some parked)) whole (λ y. refl) (λ y _. few_parked parked fits.few y)
-processes_go_on w (on_process.Total p moved) whole fits = process_goes w p (with_total moved) whole (λ y. refl) (λ y few other h. few_moved moved y.parked other few h)
+processes_go_on w (on_process.Total p moved) whole fits = process_goes w p (with_total moved) whole (λ y. refl)
+    (λ y few other h. few_moved moved y.parked other few h)
 processes_go_on w (on_process.Unpark p) whole fits = process_goes w p (with_parked None) whole (λ y. refl) (λ y few other h. cc)
 processes_go_on w (on_process.Exit p) whole fits = exited_goes w p whole
 processes_go_on w on_process.Close whole fits = closed_goes w whole

@@ -51,7 +51,8 @@ flows_keeps xs ys zs q put got f k = record { stays = λ h. f.stays (k.stays h);
 pub flows_twice : (xs ys zs : Pipes) (q : ℕ) (p g p' g' : List ℕ) → Flows xs ys q p g → Flows ys zs q p' g' → Flows xs zs q (p ++ p') (g ++ g')
 flows_twice xs ys zs q p g p' g' f k = record {
   stays = λ h. f.stays (k.stays h);
-  bytes = λ h. sym (append_assoc (held xs q) p p') ∙ (ap (λ l. l ++ p') (f.bytes (k.stays h)) ∙ (append_assoc g (held ys q) p' ∙ (ap (λ l. g ++ l) (k.bytes h) ∙ sym (append_assoc g g' (held zs q)))));
+  bytes = λ h. sym (append_assoc (held xs q) p p') ∙
+      (ap (λ l. l ++ p') (f.bytes (k.stays h)) ∙ (append_assoc g (held ys q) p' ∙ (ap (λ l. g ++ l) (k.bytes h) ∙ sym (append_assoc g g' (held zs q)))));
 }
 
 pub keeps_same : (xs : Pipes) (q : ℕ) → Keeps xs xs q
@@ -130,7 +131,8 @@ nil = []
 none_put : (b : Bool) → cond b nil nil ≡ nil
 none_put b = cond_same b nil
 
-edit_flows : (w : World) (bytes : List ℕ) (e : FileEdit) (q : ℕ) → PipeFits w.pipes e → Flows w.pipes (with_files w bytes e).pipes q (edit_put w bytes q e) (edit_got w q e)
+edit_flows : (w : World) (bytes : List ℕ) (e : FileEdit) (q : ℕ) → PipeFits w.pipes e → Flows w.pipes (with_files w bytes e).pipes q (edit_put w bytes q e)
+    (edit_got w q e)
 edit_flows w bytes (on_files.Put pipe source count) q fits =
     let new = take count (bytes_from w bytes source) in
     subst (λ g. Flows w.pipes (edited pipe (after_those new) w.pipes) q (cond (eqb pipe q) new []) g) (none_put (eqb pipe q))

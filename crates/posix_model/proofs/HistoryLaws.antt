@@ -18,14 +18,16 @@ use Rattle.posix_model.proofs.SweepWhole.{sweep_goes}
 use Rattle.posix_model.proofs.SoundActs.{acts_are_sound}
 
 -- what holds of a world, and of the world of each step from it, holds after any act
-pub stepped_or_not : (Has : World → Type 0) (w : World) (e : Option Stepped) → Has w → ((s : Stepped) → e ≡ Some s → Has s.world) → Has (option_map_or (λ s. s.world) e w)
+pub stepped_or_not : (Has : World → Type 0) (w : World) (e : Option Stepped) → Has w → ((s : Stepped) → e ≡ Some s → Has s.world) →
+    Has (option_map_or (λ s. s.world) e w)
 stepped_or_not Has w None here all = here
 stepped_or_not Has w (Some s) here all = all s refl
 
 settles_from : (bounds : Bounds) (w : World) (rs : List Record) → sweep w ≡ w → sweep (world_from bounds w rs) ≡ world_from bounds w rs
 settles_from bounds w [] settled = settled
 settles_from bounds w (r ∷ rs) settled =
-    settles_from bounds (after bounds w r) rs (stepped_or_not (λ v. sweep v ≡ v) w (step bounds w r.actor r.act) settled (λ s h. step_settles bounds w r.actor r.act s h))
+    settles_from bounds (after bounds w r) rs (stepped_or_not (λ v. sweep v ≡ v) w (step bounds w r.actor r.act) settled
+    (λ s h. step_settles bounds w r.actor r.act s h))
 
 pub history_settles : HistorySettles
 history_settles bounds h = settles_from bounds empty_world h refl
@@ -73,4 +75,5 @@ world_further bounds w (r ∷ rs) more = world_further bounds (after bounds w r)
 
 pub history_raises_numbers : HistoryRaisesNumbers
 history_raises_numbers bounds h more =
-    subst (NumbersRise (world_of bounds h)) (sym (world_further bounds empty_world h more)) (goes_from bounds (world_of bounds h) more (history_is_whole bounds h)).rises
+    subst (NumbersRise (world_of bounds h)) (sym (world_further bounds empty_world h more))
+    (goes_from bounds (world_of bounds h) more (history_is_whole bounds h)).rises

@@ -23,7 +23,8 @@ either (suc a) b A h first second = first (omega arith)
 summed_at : {X : Type 0} (f : X → ℕ) (xs : List X) (d : X) (A : Type 0) → 0 < sum_by f xs → ((n : ℕ) → n < length xs → 0 < f (get_or xs n d) → A) → A
 summed_at f [] d A h found = absurd (omega arith)
 summed_at f (x ∷ xs) d A h found =
-    either (f x) (sum_by f xs) A (rw (sum_by-cons f x xs) at h) (λ k. found 0 (omega arith) k) (λ k. summed_at f xs d A k (λ n below more. found (suc n) (omega arith) more))
+    either (f x) (sum_by f xs) A (rw (sum_by-cons f x xs) at h) (λ k. found 0 (omega arith) k)
+    (λ k. summed_at f xs d A k (λ n below more. found (suc n) (omega arith) more))
 
 passes : (b : Bool) → 0 < cond b 1 0 → b ≡ true
 passes true h = refl
@@ -42,12 +43,14 @@ fifo_there None h = cc
 fifo_there (Some x) h = refl
 
 -- what a target refers to is there
-file_there : (files : List (Option File)) (pipes : List (Option (List ℕ))) (t : Target) (f : ℕ) → is_file f t ≡ true → TargetIsThere files pipes t → IsThere files f
+file_there : (files : List (Option File)) (pipes : List (Option (List ℕ))) (t : Target) (f : ℕ) → is_file f t ≡ true → TargetIsThere files pipes t →
+    IsThere files f
 file_there files pipes (target.Regular g) f is there = subst (IsThere files) (eqb-true g f is) (regular_there (slot files g) there)
 file_there files pipes (target.Pipe p) f is there = cc
 file_there files pipes (target.Fifo g p) f is there = subst (IsThere files) (eqb-true g f is) (fifo_there (slot files g) there.0)
 
-pipe_there : (files : List (Option File)) (pipes : List (Option (List ℕ))) (t : Target) (p : ℕ) → is_pipe p t ≡ true → TargetIsThere files pipes t → IsThere pipes p
+pipe_there : (files : List (Option File)) (pipes : List (Option (List ℕ))) (t : Target) (p : ℕ) → is_pipe p t ≡ true → TargetIsThere files pipes t →
+    IsThere pipes p
 pipe_there files pipes (target.Regular f) p is there = cc
 pipe_there files pipes (target.Pipe q) p is there = subst (IsThere pipes) (eqb-true q p is) there
 pipe_there files pipes (target.Fifo f q) p is there = subst (IsThere pipes) (eqb-true q p is) there.1
@@ -76,19 +79,22 @@ held_there w f whole h =
 read_there : (w : World) (p : ℕ) → IsWhole w → 0 < readers w.descriptions p → IsThere w.pipes p
 read_there w p whole h =
     counted_at (reads p) w.descriptions None (IsThere w.pipes p) h
-    (λ n below holding. on_target (IsThere w.pipes p) (reads p) (is_pipe p) refl (λ d k. both (is_pipe p d.target) (can_read d.mode) k) (slot w.descriptions n) holding
+    (λ n below holding. on_target (IsThere w.pipes p) (reads p) (is_pipe p) refl (λ d k. both (is_pipe p d.target) (can_read d.mode) k)
+    (slot w.descriptions n) holding
     (λ d stands is. pipe_there w.files w.pipes d.target p is (whole.descriptions n d stands)))
 
 written_there : (w : World) (p : ℕ) → IsWhole w → 0 < writers w.descriptions p → IsThere w.pipes p
 written_there w p whole h =
     counted_at (writes p) w.descriptions None (IsThere w.pipes p) h
-    (λ n below holding. on_target (IsThere w.pipes p) (writes p) (is_pipe p) refl (λ d k. both (is_pipe p d.target) (can_write d.mode) k) (slot w.descriptions n) holding
+    (λ n below holding. on_target (IsThere w.pipes p) (writes p) (is_pipe p) refl (λ d k. both (is_pipe p d.target) (can_write d.mode) k)
+    (slot w.descriptions n) holding
     (λ d stands is. pipe_there w.files w.pipes d.target p is (whole.descriptions n d stands)))
 
 referred_by : (w : World) (n p : ℕ) (process : Option Process) → slot w.processes p ≡ process → IsWhole w → 0 < refs_of n process → IsThere w.descriptions n
 referred_by w n p None e whole h = absurd (omega arith)
 referred_by w n p (Some process) e whole h =
-    counted_at (refers n) process.table None (IsThere w.descriptions n) h (λ fd below referring. entry (slot process.table fd) (whole.processes p process e fd) referring)
+    counted_at (refers n) process.table None (IsThere w.descriptions n) h
+    (λ fd below referring. entry (slot process.table fd) (whole.processes p process e fd) referring)
   where
     entry : (x : Option ℕ) → ((m : ℕ) → x ≡ Some m → IsThere w.descriptions m) → refers n x ≡ true → IsThere w.descriptions n
     entry None all k = cc
@@ -101,7 +107,11 @@ referred_there w n whole h =
 keeps_exactly : (w : World) → IsWhole w → IsSettled w → KeptExactly w
 keeps_exactly w whole settled = record {
   files = λ n. (settled.files n, λ h. either (links w.names n) (holders w.descriptions n) (IsThere w.files n) h (named_there w n whole) (held_there w n whole));
-  pipes = λ n. (settled.pipes n, λ h. either (readers w.descriptions n) (writers w.descriptions n) (IsThere w.pipes n) h (read_there w n whole) (written_there w n whole));
+  pipes = λ n. (
+    settled.pipes n,
+    λ h. either (readers w.descriptions n) (writers w.descriptions n) (IsThere w.pipes n) h (read_there w n whole)
+        (written_there w n whole),
+  );
   descriptions = λ n. (settled.descriptions n, referred_there w n whole);
 }
 

@@ -28,7 +28,8 @@ short_outcome (outcome.Reply (reply.Data bytes)) = omega arith
 short_outcome (outcome.Reply other) = omega arith
 short_outcome other = omega arith
 
-short_record : (actor : ℕ) (a : Act) (o : Outcome) → IsShort a → length (data_in o) ≤ data_most a → record_length (record { actor = actor; act = a; outcome = o }) ≤ RECORD_LENGTH_MAX
+short_record : (actor : ℕ) (a : Act) (o : Outcome) → IsShort a → length (data_in o) ≤ data_most a →
+    record_length (record { actor = actor; act = a; outcome = o }) ≤ RECORD_LENGTH_MAX
 short_record actor (act.Call c) o short brief = omega (arith, short_fields (parts c).entry.fields (parts c).values short, room_left c, short_outcome o, brief)
 short_record actor act.Resume o short brief = omega (arith, short_outcome o, brief)
 short_record actor other o short brief = omega (arith, short_outcome o, brief)

@@ -66,7 +66,8 @@ took_zero : (t : Turn) → took_in 0 t ≡ 0
 took_zero t = let P : Bool → Type 0 = λ b. cond b (0 - t.moved) 0 ≡ 0 in elim (is_some (payload_of t.call)) as P [ true ↦ omega arith | false ↦ refl ]
 
 -- a try that moves nothing
-pub fair_still : (w : World) (bytes : List ℕ) (on : ℕ → Bool) (t : Turn) (d : Try) → edit_of d ≡ on_files.Nothing → took_in (total_of d) t ≡ 0 → told_of d ≡ [] → Fair w bytes on t d
+pub fair_still : (w : World) (bytes : List ℕ) (on : ℕ → Bool) (t : Turn) (d : Try) → edit_of d ≡ on_files.Nothing → took_in (total_of d) t ≡ 0 →
+    told_of d ≡ [] → Fair w bytes on t d
 fair_still w bytes on t d still no_bytes no_data = record {
   put = λ q. rw still (none_took (on q) (took_in (total_of d) t) (drop t.moved (data_given t.call)) no_bytes);
   got = λ q. rw still (none (on q) (told_of d) no_data);
@@ -96,7 +97,8 @@ FairWrite w bytes pipe fd new moved d = Fair w bytes (eqb pipe) (turn_of (call.W
 part_more : (fd : ℤ) (new : List ℕ) (moved n : ℕ) → take n (drop moved new) ≡ part_of (turn_of (call.Write fd new) moved) (moved + n)
 part_more fd new moved n = let e : moved + n - moved ≡ n = omega arith in ap (λ k. take k (drop moved new)) (sym e)
 
-fair_broken : (w : World) (bytes : List ℕ) (pipe : ℕ) (fd : ℤ) (new : List ℕ) (moved : ℕ) → FairWrite w bytes pipe fd new moved (Ends (broken moved) on_files.Nothing)
+fair_broken : (w : World) (bytes : List ℕ) (pipe : ℕ) (fd : ℤ) (new : List ℕ) (moved : ℕ) →
+    FairWrite w bytes pipe fd new moved (Ends (broken moved) on_files.Nothing)
 fair_broken w bytes pipe fd new moved =
     let t = turn_of (call.Write fd new) moved in
     if_at (λ r. FairWrite w bytes pipe fd new moved (Ends r on_files.Nothing)) (eqb moved 0) (Error EPIPE) (Number moved)
@@ -104,7 +106,8 @@ fair_broken w bytes pipe fd new moved =
     (λ e. fair_still w bytes (eqb pipe) t (Ends (Number moved) on_files.Nothing) refl (omega arith) refl)
 
 pub fair_write : (bounds : Bounds) (w : World) (bytes : List ℕ) (pipe : ℕ) (s : DataSource) (fd : ℤ) (new : List ℕ) (moved : ℕ) →
-    bytes_from w bytes s ≡ drop moved new → (length new ≤ PIPE_BUF → moved ≡ 0) → FairWrite w bytes pipe fd new moved (write_try bounds w pipe s (length new) moved)
+    bytes_from w bytes s ≡ drop moved new → (length new ≤ PIPE_BUF → moved ≡ 0) →
+    FairWrite w bytes pipe fd new moved (write_try bounds w pipe s (length new) moved)
 fair_write bounds w bytes pipe s fd new moved from small =
     let t = turn_of (call.Write fd new) moved in
     let rest = length new - moved in
@@ -134,7 +137,8 @@ still_moves w bytes (on_files.Take pipe count) s = absurd s
 still_moves w bytes other s = record { puts = λ q. refl; gets = λ q. refl }
 
 -- nothing is told, and nothing moves
-pub tells_none : (w : World) (bytes : List ℕ) (on : ℕ → Bool) (t : Turn) (d : Decided) → took_in (total d.outcome) t ≡ 0 → data_in d.outcome ≡ [] → IsStill d.change.files → Tells w bytes on t d
+pub tells_none : (w : World) (bytes : List ℕ) (on : ℕ → Bool) (t : Turn) (d : Decided) → took_in (total d.outcome) t ≡ 0 → data_in d.outcome ≡ [] →
+    IsStill d.change.files → Tells w bytes on t d
 tells_none w bytes on t d no_bytes no_data still = let moves = still_moves w bytes d.change.files still in record {
   put = λ q. moves.puts q ∙ none_took (on q) (took_in (total d.outcome) t) (drop t.moved (data_given t.call)) no_bytes;
   got = λ q. moves.gets q ∙ none (on q) (data_in d.outcome) no_data;
@@ -142,7 +146,8 @@ tells_none w bytes on t d no_bytes no_data still = let moves = still_moves w byt
 }
 
 -- the call is on no pipe, and nothing moves there
-pub tells_elsewhere : (w : World) (bytes : List ℕ) (on : ℕ → Bool) (t : Turn) (d : Decided) → ((q : ℕ) → on q ≡ false) → IsStill d.change.files → Tells w bytes on t d
+pub tells_elsewhere : (w : World) (bytes : List ℕ) (on : ℕ → Bool) (t : Turn) (d : Decided) → ((q : ℕ) → on q ≡ false) → IsStill d.change.files →
+    Tells w bytes on t d
 tells_elsewhere w bytes on t d off still = let moves = still_moves w bytes d.change.files still in record {
   put = λ q. moves.puts q ∙ sym (ap (λ b. cond b (part_of t (total d.outcome)) []) (off q));
   got = λ q. moves.gets q ∙ sym (ap (λ b. cond b (data_in d.outcome) []) (off q));
@@ -153,7 +158,8 @@ pub tells_refused : (w : World) (bytes : List ℕ) (on : ℕ → Bool) (t : Turn
 tells_refused w bytes on t error = tells_none w bytes on t (refused error) (took_zero t) refl tt
 
 -- the first try of a call
-pub tells_first : (w : World) (bytes : List ℕ) (on : ℕ → Bool) (p : ℕ) (c : Call) (o : OpenDescriptor) (d : Try) → Fair w bytes on (turn_of c 0) d → Tells w bytes on (turn_of c 0) (first_try p c o d)
+pub tells_first : (w : World) (bytes : List ℕ) (on : ℕ → Bool) (p : ℕ) (c : Call) (o : OpenDescriptor) (d : Try) → Fair w bytes on (turn_of c 0) d →
+    Tells w bytes on (turn_of c 0) (first_try p c o d)
 tells_first w bytes on p c o (Ends reply edit) h = record { put = h.put; got = h.got; whole = λ q e. h.whole }
 tells_first w bytes on p c o (Waits moved edit) h =
     let Has = Tells w bytes on (turn_of c 0) in
@@ -162,7 +168,8 @@ tells_first w bytes on p c o (Waits moved edit) h =
     (λ e. record { put = h.put; got = h.got; whole = λ q e. h.whole })
 
 -- a further try of the call that a process waits in
-pub tells_next : (w : World) (bytes : List ℕ) (on : ℕ → Bool) (p : ℕ) (parked : Parked) (d : Try) → parked_of (slot w.processes p) ≡ Some parked → Fair w bytes on (turn_of parked.call parked.moved) d →
+pub tells_next : (w : World) (bytes : List ℕ) (on : ℕ → Bool) (p : ℕ) (parked : Parked) (d : Try) → parked_of (slot w.processes p) ≡ Some parked →
+    Fair w bytes on (turn_of parked.call parked.moved) d →
     Tells w bytes on (turn_of parked.call parked.moved) (next_try p d)
 tells_next w bytes on p parked (Ends reply edit) is h = record { put = h.put; got = h.got; whole = λ q e. h.whole }
 tells_next w bytes on p parked (Waits moved edit) is h = record { put = h.put; got = h.got; whole = λ q e. h.whole }

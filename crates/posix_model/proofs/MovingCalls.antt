@@ -80,7 +80,8 @@ tells_open : (w : World) (bytes : List ℕ) (t : Turn) (x : Option OpenDescripto
     ((o : OpenDescriptor) → x ≡ Some o → first_fault (page o).faults ≡ None → Tells w bytes (on_target o.description.target) t (page o).effect) →
     Tells w bytes (λ q. is_on q x) t (on_open x page)
 tells_open w bytes t None page all = tells_refused w bytes (λ q. false) t _
-tells_open w bytes t (Some o) page all = page_has (Tells w bytes (on_target o.description.target) t) (page o) (tells_refused w bytes (on_target o.description.target) t) (all o refl)
+tells_open w bytes t (Some o) page all = page_has (Tells w bytes (on_target o.description.target) t) (page o)
+    (tells_refused w bytes (on_target o.description.target) t) (all o refl)
 
 -- nothing is told, and no byte moves
 record IsQuiet (d : Decided) : Type 0 where
@@ -142,9 +143,11 @@ read_tells w p fd count o (target.Regular f) =
     let on = on_target (target.Regular f) in
     let c = turn_of (call.Read fd count) 0 in
     let got = bytes_at (bytes_of w (file_at o)) o.description.offset count in
-    if_at (Tells w [] on c) (eqb (length got) 0) (tells (Data got)) (does (Data got) on_files.Nothing (on_table.Describe o.number (on_description.Offset (o.description.offset + length got))))
+    if_at (Tells w [] on c) (eqb (length got) 0) (tells (Data got))
+    (does (Data got) on_files.Nothing (on_table.Describe o.number (on_description.Offset (o.description.offset + length got))))
     (λ e. tells_elsewhere w [] on c (tells (Data got)) (λ q. refl) tt)
-    (λ e. tells_elsewhere w [] on c (does (Data got) on_files.Nothing (on_table.Describe o.number (on_description.Offset (o.description.offset + length got)))) (λ q. refl) tt)
+    (λ e. tells_elsewhere w [] on c (does (Data got) on_files.Nothing (on_table.Describe o.number (on_description.Offset (o.description.offset + length got))))
+    (λ q. refl) tt)
 read_tells w p fd count o (target.Pipe pipe) = read_end_tells w p fd count o pipe
 read_tells w p fd count o (target.Fifo f pipe) = read_end_tells w p fd count o pipe
 
@@ -162,14 +165,16 @@ write_end_tells : (bounds : Bounds) (w : World) (p : ℕ) (fd : ℤ) (new : List
 write_end_tells bounds w p fd new o pipe =
     let c = call.Write fd new in
     if_at (Tells w new (eqb pipe) (turn_of c 0)) (eqb (length new) 0) _ _ (λ e. tells_none w new (eqb pipe) (turn_of c 0) (tells (Number 0)) refl refl tt)
-    (λ e. tells_first w new (eqb pipe) p c o (write_try bounds w pipe source.Act (length new) 0) (fair_write bounds w new pipe source.Act fd new 0 refl (λ s. refl)))
+    (λ e. tells_first w new (eqb pipe) p c o (write_try bounds w pipe source.Act (length new) 0)
+    (fair_write bounds w new pipe source.Act fd new 0 refl (λ s. refl)))
 
 -- a write to what a target is
 write_tells : (bounds : Bounds) (w : World) (p : ℕ) (fd : ℤ) (new : List ℕ) (start : ℕ) (o : OpenDescriptor) (t : Target) →
     Tells w new (on_target t) (turn_of (call.Write fd new) 0) (write_to bounds w p (call.Write fd new) start new o (pipe_at t))
 write_tells bounds w p fd new start o (target.Regular f) =
     let n = fitting bounds start new in
-    puts_tells w new new (on_target (target.Regular f)) (turn_of (call.Write fd new) 0) (file_at o) start n (on_table.Describe o.number (on_description.Offset (start + n))) (λ q. refl)
+    puts_tells w new new (on_target (target.Regular f)) (turn_of (call.Write fd new) 0) (file_at o) start n
+    (on_table.Describe o.number (on_description.Offset (start + n))) (λ q. refl)
 write_tells bounds w p fd new start o (target.Pipe pipe) = write_end_tells bounds w p fd new o pipe
 write_tells bounds w p fd new start o (target.Fifo f pipe) = write_end_tells bounds w p fd new o pipe
 
@@ -183,23 +188,29 @@ open_quiet w p name flags (Some number) = at (fifo_at (slot w.files number))
     at (Some fifo) = search (rules, quiet_rules)
 
 -- one case for each call
-call_tells : (bounds : Bounds) (w : World) (p : ℕ) (c : Call) → Tells w (given (act.Call c)) (λ q. is_on q (new_turn_on w p c).on) (new_turn c) (decided bounds w p c)
+call_tells : (bounds : Bounds) (w : World) (p : ℕ) (c : Call) → Tells w (given (act.Call c)) (λ q. is_on q (new_turn_on w p c).on) (new_turn c)
+    (decided bounds w p c)
 call_tells bounds w p (call.Open name flags) =
-    quiet_moves w [] (λ q. false) (new_turn (call.Open name flags)) (decided_by (open_file w p name flags)) (λ now. refl) (quiet_page (open_file w p name flags) (open_quiet w p name flags (file_of name w.names)))
+    quiet_moves w [] (λ q. false) (new_turn (call.Open name flags)) (decided_by (open_file w p name flags)) (λ now. refl)
+    (quiet_page (open_file w p name flags) (open_quiet w p name flags (file_of name w.names)))
 call_tells bounds w p (call.Read fd count) =
-    tells_open w [] (turn_of (call.Read fd count) 0) (opened w p fd) (read w p (call.Read fd count) count) (λ o e free. read_tells w p fd count o o.description.target)
+    tells_open w [] (turn_of (call.Read fd count) 0) (opened w p fd) (read w p (call.Read fd count) count)
+    (λ o e free. read_tells w p fd count o o.description.target)
 call_tells bounds w p (call.Write fd new) =
     tells_open w new (turn_of (call.Write fd new) 0) (opened w p fd) (write bounds w p (call.Write fd new) new)
     (λ o e free. write_tells bounds w p fd new (write_start o.description (length (bytes_of w (file_at o)))) o o.description.target)
 call_tells bounds w p (call.Pread fd start count) =
     tells_open w [] (turn_of (call.Pread fd start count) 0) (opened w p fd) (pread w start count)
-    (λ o e free. tells_elsewhere w [] (on_target o.description.target) _ (pread w start count o).effect (no_pipe o.description.target (unmet (pread w start count o).faults free (not (is_regular o)) (search rules))) tt)
+    (λ o e free. tells_elsewhere w [] (on_target o.description.target) _ (pread w start count o).effect
+    (no_pipe o.description.target (unmet (pread w start count o).faults free (not (is_regular o)) (search rules))) tt)
 call_tells bounds w p (call.Pwrite fd start new) =
     tells_open w new (turn_of (call.Pwrite fd start new) 0) (opened w p fd) (pwrite bounds start new)
-    (λ o e free. puts_tells w new new (on_target o.description.target) _ (file_at o) (bytes_before start) (fitting bounds (bytes_before start) new) on_table.Nothing
+    (λ o e free. puts_tells w new new (on_target o.description.target) _ (file_at o) (bytes_before start) (fitting bounds (bytes_before start) new)
+    on_table.Nothing
     (no_pipe o.description.target (unmet (pwrite bounds start new o).faults free (not (is_regular o)) (search rules))))
 call_tells bounds w p other =
-    quiet_moves w (given (act.Call other)) (λ q. is_on q (new_turn_on w p other).on) (new_turn other) (decided bounds w p other) (λ now. refl) (search (rules, quiet_rules))
+    quiet_moves w (given (act.Call other)) (λ q. is_on q (new_turn_on w p other).on) (new_turn other) (decided bounds w p other) (λ now. refl)
+    (search (rules, quiet_rules))
 
 -- all tries that an option has, which is one at most
 abbrev EachTry : (Try → Type 0) → Option Try → Type 0
@@ -211,13 +222,16 @@ if_ready Has true d h = h
 if_ready Has false d h = tt
 
 -- the next try of a call that waits on a pipe
-again_fair : (bounds : Bounds) (w : World) (p : ℕ) (o : OpenDescriptor) (parked : Parked) (pipe : ℕ) (c : Call) → parked.call ≡ c → parked_of (slot w.processes p) ≡ Some parked →
+again_fair : (bounds : Bounds) (w : World) (p : ℕ) (o : OpenDescriptor) (parked : Parked) (pipe : ℕ) (c : Call) → parked.call ≡ c →
+    parked_of (slot w.processes p) ≡ Some parked →
     Owes c parked.moved → EachTry (Fair w [] (eqb pipe) (turn_of c parked.moved)) (try_again bounds w p o parked pipe c)
 again_fair bounds w p o parked pipe (call.Read fd count) same is owes =
-    if_ready (Fair w [] (eqb pipe) (turn_of (call.Read fd count) parked.moved)) (read_ready w pipe) (read_try w pipe count) (fair_read w [] pipe fd count parked.moved)
+    if_ready (Fair w [] (eqb pipe) (turn_of (call.Read fd count) parked.moved)) (read_ready w pipe) (read_try w pipe count)
+    (fair_read w [] pipe fd count parked.moved)
 again_fair bounds w p o parked pipe (call.Write fd new) same is owes =
     let from : rest_of (parked_of (slot w.processes p)) ≡ drop parked.moved new = ap rest_of is ∙ ap (λ c. drop parked.moved (data_given c)) same in
-    if_ready (Fair w [] (eqb pipe) (turn_of (call.Write fd new) parked.moved)) (write_ready bounds w pipe (length new)) (write_try bounds w pipe (source.Parked p) (length new) parked.moved)
+    if_ready (Fair w [] (eqb pipe) (turn_of (call.Write fd new) parked.moved)) (write_ready bounds w pipe (length new))
+    (write_try bounds w pipe (source.Parked p) (length new) parked.moved)
     (fair_write bounds w [] pipe (source.Parked p) fd new parked.moved from owes)
 again_fair bounds w p o parked pipe (call.Open name flags) same is owes =
     let t = turn_of (call.Open name flags) parked.moved in
@@ -226,14 +240,16 @@ again_fair bounds w p o parked pipe (call.Open name flags) same is owes =
 again_fair bounds w p o parked pipe other same is owes = tt
 
 -- the next try of a call that waits on what a target is
-target_fair : (bounds : Bounds) (w : World) (p : ℕ) (o : OpenDescriptor) (parked : Parked) (t : Target) → parked_of (slot w.processes p) ≡ Some parked → Owes parked.call parked.moved →
+target_fair : (bounds : Bounds) (w : World) (p : ℕ) (o : OpenDescriptor) (parked : Parked) (t : Target) → parked_of (slot w.processes p) ≡ Some parked →
+    Owes parked.call parked.moved →
     EachTry (Fair w [] (on_target t) (turn_of parked.call parked.moved)) (try_on bounds w p parked o (pipe_at t))
 target_fair bounds w p o parked (target.Regular f) is owes = tt
 target_fair bounds w p o parked (target.Pipe pipe) is owes = again_fair bounds w p o parked pipe parked.call refl is owes
 target_fair bounds w p o parked (target.Fifo f pipe) is owes = again_fair bounds w p o parked pipe parked.call refl is owes
 
 -- the next try of a call that waits
-next_fair : (bounds : Bounds) (w : World) (p : ℕ) (parked : Parked) → parked_of (slot w.processes p) ≡ Some parked → Owes parked.call parked.moved → (x : Option OpenDescriptor) →
+next_fair : (bounds : Bounds) (w : World) (p : ℕ) (parked : Parked) → parked_of (slot w.processes p) ≡ Some parked → Owes parked.call parked.moved →
+    (x : Option OpenDescriptor) →
     EachTry (Fair w [] (λ q. is_on q x) (turn_of parked.call parked.moved)) (try_opened bounds w p parked x)
 next_fair bounds w p parked is owes None = tt
 next_fair bounds w p parked is owes (Some o) = target_fair bounds w p o parked o.description.target is owes
@@ -246,16 +262,20 @@ turn_or_idle (Some t) = t
 abbrev pub TellsOn : World → List ℕ → Option TurnOn → Decided → Type 0
 TellsOn w bytes x d = Tells w bytes (λ q. is_on q (turn_or_idle x).on) (turn_or_idle x).turn d
 
-try_tells : (w : World) (p : ℕ) (parked : Parked) (on : ℕ → Bool) (x : Option Try) (d : Decided) → parked_of (slot w.processes p) ≡ Some parked → EachTry (Fair w [] on (turn_of parked.call parked.moved)) x →
+try_tells : (w : World) (p : ℕ) (parked : Parked) (on : ℕ → Bool) (x : Option Try) (d : Decided) → parked_of (slot w.processes p) ≡ Some parked →
+    EachTry (Fair w [] on (turn_of parked.call parked.moved)) x →
     option_map (next_try p) x ≡ Some d → Tells w [] on (turn_of parked.call parked.moved) d
 try_tells w p parked on None d is fair h = cc
-try_tells w p parked on (Some t) d is fair h = let e : next_try p t ≡ d = cc in subst (Tells w [] on (turn_of parked.call parked.moved)) e (tells_next w [] on p parked t is fair)
+try_tells w p parked on (Some t) d is fair h = let e : next_try p t ≡ d = cc in subst (Tells w [] on (turn_of parked.call parked.moved)) e
+    (tells_next w [] on p parked t is fair)
 
 -- a resume
-resume_tells : (bounds : Bounds) (w : World) (p : ℕ) (d : Decided) → EachWaitsWell w → resume bounds w p ≡ Some d → TellsOn w [] (option_map (next_turn_on w p) (parked_of (slot w.processes p))) d
+resume_tells : (bounds : Bounds) (w : World) (p : ℕ) (d : Decided) → EachWaitsWell w → resume bounds w p ≡ Some d →
+    TellsOn w [] (option_map (next_turn_on w p) (parked_of (slot w.processes p))) d
 resume_tells bounds w p d each h = at (parked_of (slot w.processes p)) (is_here (slot w.processes p)) refl h
   where
-    at : (x : Option Parked) (here : Bool) → parked_of (slot w.processes p) ≡ x → option_map (next_try p) (cond here (try_parked bounds w p x) None) ≡ Some d → TellsOn w [] (option_map (next_turn_on w p) x) d
+    at : (x : Option Parked) (here : Bool) → parked_of (slot w.processes p) ≡ x → option_map (next_try p) (cond here (try_parked bounds w p x) None) ≡ Some d →
+        TellsOn w [] (option_map (next_turn_on w p) x) d
     at x false e k = cc
     at None true e k = cc
     at (Some parked) true e k =
@@ -267,7 +287,8 @@ idle_moves : (w : World) (d : Decided) → IsQuiet d → TellsOn w [] None d
 idle_moves w d quiet = quiet_moves w [] (λ q. false) (turn_of call.Fork 0) d (λ now. refl) quiet
 
 -- one case for each act
-pub act_tells : (bounds : Bounds) (w : World) (actor : ℕ) (a : Act) (d : Decided) → EachWaitsWell w → comes_to bounds w actor a ≡ Some d → TellsOn w (given a) (turn_on w actor a) d
+pub act_tells : (bounds : Bounds) (w : World) (actor : ℕ) (a : Act) (d : Decided) → EachWaitsWell w → comes_to bounds w actor a ≡ Some d →
+    TellsOn w (given a) (turn_on w actor a) d
 act_tells bounds w actor act.Join d each h = at (eqb actor (length w.processes)) h
   where
     at : (b : Bool) → cond b (Some (decided_by (join w))) None ≡ Some d → TellsOn w [] None d
@@ -279,8 +300,10 @@ act_tells bounds w actor (act.Call c) d each h = at (can_call (slot w.processes 
   where
     at : (b : Bool) → cond b (Some (decided bounds w actor c)) None ≡ Some d → TellsOn w (given (act.Call c)) (turn_on w actor (act.Call c)) d
     at false k = cc
-    at true k = let e : decided bounds w actor c ≡ d = cc in subst (TellsOn w (given (act.Call c)) (turn_on w actor (act.Call c))) e (call_tells bounds w actor c)
-act_tells bounds w actor act.Resume d each h = subst (λ x. TellsOn w [] x d) (resumed_on w actor (parked_of (slot w.processes actor))) (resume_tells bounds w actor d each h)
+    at true k = let e : decided bounds w actor c ≡ d = cc in subst (TellsOn w (given (act.Call c)) (turn_on w actor (act.Call c))) e
+        (call_tells bounds w actor c)
+act_tells bounds w actor act.Resume d each h = subst (λ x. TellsOn w [] x d) (resumed_on w actor (parked_of (slot w.processes actor)))
+    (resume_tells bounds w actor d each h)
 act_tells bounds w actor act.Exit d each h = at (is_some (slot w.processes actor)) h
   where
     at : (b : Bool) → cond b (Some (exit actor)) None ≡ Some d → TellsOn w [] None d

@@ -29,10 +29,12 @@ apart a b other = by (slice_cmp nat_cmp a b) refl
     by Greater h = refl
 
 -- what a name that is taken away leaves
-pub left_file : (name other : List ℕ) (es : Entries) → file_of other (without_name name es) ≡ cond (not (eq_by_cmp (slice_cmp nat_cmp) name other)) (file_of other es) None
+pub left_file : (name other : List ℕ) (es : Entries) → file_of other (without_name name es) ≡ cond (not (eq_by_cmp (slice_cmp nat_cmp) name other))
+    (file_of other es) None
 left_file name other es =
     find-where_key (slice_cmp nat_cmp) (λ x. not (eq_by_cmp (slice_cmp nat_cmp) name x)) other
-    (λ x tie. let same : other ≡ x = slice_cmp-IsAntisymmetric nat_cmp-IsAntisymmetric other x tie in ap (λ y. not (eq_by_cmp (slice_cmp nat_cmp) name y)) (sym same)) es
+    (λ x tie. let same : other ≡ x = slice_cmp-IsAntisymmetric nat_cmp-IsAntisymmetric other x tie in ap (λ y. not (eq_by_cmp (slice_cmp nat_cmp) name y))
+    (sym same)) es
 
 -- it leads nowhere
 pub gone_name : (name : List ℕ) (es : Entries) → file_of name (without_name name es) ≡ None
@@ -54,7 +56,8 @@ still_none name other es none = left_file name other es ∙ at (not (eq_by_cmp (
 pub nothing_without : (name : List ℕ) (es : Entries) → file_of name es ≡ None → without_name name es ≡ es
 nothing_without name [] none = refl
 nothing_without name (e ∷ es) none =
-    elim (eq_by_cmp (slice_cmp nat_cmp) name e.0) as (λ b. cond b (Some e.1) (file_of name es) ≡ None → cond (not b) (e ∷ without_name name es) (without_name name es) ≡ e ∷ es) [
+    elim (eq_by_cmp (slice_cmp nat_cmp) name e.0) as (λ b. cond b (Some e.1) (file_of name es) ≡ None →
+    cond (not b) (e ∷ without_name name es) (without_name name es) ≡ e ∷ es) [
       | true ↦ λ h. cc
       | false ↦ λ h. ap (λ l. e ∷ l) (nothing_without name es h)
     ] none
@@ -72,7 +75,8 @@ no_more_names name (e ∷ es) =
 pub one_fewer : (name : List ℕ) (es : Entries) → is_some (file_of name es) ≡ true → length (without_name name es) + 1 ≤ length es
 one_fewer name [] there = cc
 one_fewer name (e ∷ es) there =
-    elim (eq_by_cmp (slice_cmp nat_cmp) name e.0) as (λ b. is_some (cond b (Some e.1) (file_of name es)) ≡ true → length (cond (not b) (e ∷ without_name name es) (without_name name es)) + 1 ≤ length (e ∷ es)) [
+    elim (eq_by_cmp (slice_cmp nat_cmp) name e.0) as (λ b. is_some (cond b (Some e.1) (file_of name es)) ≡ true →
+    length (cond (not b) (e ∷ without_name name es) (without_name name es)) + 1 ≤ length (e ∷ es)) [
       | true ↦ λ h. omega (arith, no_more_names name es)
       | false ↦ λ h. omega (arith, one_fewer name es h)
     ] there

@@ -3,11 +3,13 @@ use Rattle.std.proofs.Common.{◌≡◌, Bool, true, false, cond, List, [], ◌�
 use Rattle.posix_model.specs.Types.{Errno, OpenDescriptor, Decided, EBADF}
 use Rattle.posix_model.specs.Pages.{Page, first_fault, unless, refused, decided_by, on_open}
 
-unless_has : (Has : Decided → Type 0) (fault : Option Errno) (effect : Decided) → ((error : Errno) → Has (refused error)) → (fault ≡ None → Has effect) → Has (unless fault effect)
+unless_has : (Has : Decided → Type 0) (fault : Option Errno) (effect : Decided) → ((error : Errno) → Has (refused error)) → (fault ≡ None → Has effect) →
+    Has (unless fault effect)
 unless_has Has None effect refuses all = all refl
 unless_has Has (Some error) effect refuses all = refuses error
 
-pub page_has : (Has : Decided → Type 0) (page : Page) → ((error : Errno) → Has (refused error)) → (first_fault page.faults ≡ None → Has page.effect) → Has (decided_by page)
+pub page_has : (Has : Decided → Type 0) (page : Page) → ((error : Errno) → Has (refused error)) → (first_fault page.faults ≡ None → Has page.effect) →
+    Has (decided_by page)
 page_has Has page refuses all = unless_has Has (first_fault page.faults) page.effect refuses all
 
 -- the same of a call on a descriptor
@@ -30,7 +32,8 @@ pub unmet : (faults : List (Bool × Errno)) → first_fault faults ≡ None → 
 unmet [] h b of = absurd of
 unmet (fault ∷ faults) h b of = by_first fault.0 fault.1 (unmet faults) h of
   where
-    by_first : (a : Bool) (error : Errno) → (first_fault faults ≡ None → (b : Bool) → IsOf faults b → b ≡ false) → cond a (Some error) (first_fault faults) ≡ None → (a ≡ b) ⊎ IsOf faults b → b ≡ false
+    by_first : (a : Bool) (error : Errno) → (first_fault faults ≡ None → (b : Bool) → IsOf faults b → b ≡ false) → cond a (Some error) (first_fault faults)
+        ≡ None → (a ≡ b) ⊎ IsOf faults b → b ≡ false
     by_first true error rest h of = cc
     by_first false error rest h (inl is) = sym is
     by_first false error rest h (inr of) = rest h b of

@@ -22,7 +22,8 @@ fifo_pipe_stays pipes more add (file.Regular bytes) there = tt
 fifo_pipe_stays pipes more add (file.Fifo fifo) there = λ p h. add.there p (there p h)
 
 -- and so does what a description refers to
-target_goes : (files later : List (Option File)) (pipes more : List (Option (List ℕ))) → FilesAdd files later → Adds pipes more → (t : Target) → TargetIsThere files pipes t → TargetIsThere later more t
+target_goes : (files later : List (Option File)) (pipes more : List (Option (List ℕ))) → FilesAdd files later → Adds pipes more → (t : Target) →
+    TargetIsThere files pipes t → TargetIsThere later more t
 target_goes files later pipes more a b (target.Regular f) h = a.regular f h
 target_goes files later pipes more a b (target.Pipe p) h = b.there p h
 target_goes files later pipes more a b (target.Fifo f p) h = (a.fifo f h.0, b.there p h.1)
@@ -31,7 +32,8 @@ files_same : (files : List (Option File)) → FilesAdd files files
 files_same files = record { adds = adds_same files; regular = λ n h. h; fifo = λ n h. h; kinds = stays_as_is (λ f. is_fifo (Some f)) files }
 
 -- files and pipes of a world are others, of which none went
-contents_go : (w : World) (files : List (Option File)) (pipes : List (Option (List ℕ))) → IsWhole w → FilesAdd w.files files → Adds w.pipes pipes → EachThere (PipeIsThere pipes) files →
+contents_go : (w : World) (files : List (Option File)) (pipes : List (Option (List ℕ))) → IsWhole w → FilesAdd w.files files → Adds w.pipes pipes →
+    EachThere (PipeIsThere pipes) files →
     EachThere (λ d. IsItsFifo files d.target) w.descriptions → PipesApart files → PipesStay w.files files → Goes w (record w { files = files; pipes = pipes })
 contents_go w files pipes whole more added fifos ends apart stay = record {
   rises = record {
@@ -59,9 +61,19 @@ contents_go w files pipes whole more added fifos ends apart stay = record {
 -- pipes are added, or hold other bytes
 pub pipes_go : (w : World) (pipes : List (Option (List ℕ))) → IsWhole w → Adds w.pipes pipes → Goes w (record w { pipes = pipes })
 pipes_go w pipes whole added =
-    let more = contents_go w w.files pipes whole (files_same w.files) added (λ n x h. fifo_pipe_stays w.pipes pipes added x (whole.fifos n x h)) whole.ends whole.apart (λ f p h. h) in
+    let more = contents_go w w.files pipes whole (files_same w.files) added (λ n x h. fifo_pipe_stays w.pipes pipes added x (whole.fifos n x h)) whole.ends
+    whole.apart (λ f p h. h) in
     record {
-      rises = record { files = more.rises.files; pipes = more.rises.pipes; descriptions = more.rises.descriptions; processes = more.rises.processes; kinds = more.rises.kinds; targets = more.rises.targets; modes = more.rises.modes };
+      rises = record {
+        files = more.rises.files;
+        pipes = more.rises.pipes;
+        descriptions = more.rises.descriptions;
+        processes = more.rises.processes;
+        kinds =
+            more.rises.kinds;
+        targets = more.rises.targets;
+        modes = more.rises.modes;
+      };
       whole = record {
         names = more.whole.names;
         descriptions = more.whole.descriptions;
@@ -80,7 +92,8 @@ below_next : (w : World) (g p : ℕ) → IsWhole w → HasPipe w.files g p → p
 below_next w g p whole h = there_below w.pipes p (pipe_there w.pipes w.files whole.fifos g p h)
 
 -- and so is the pipe that a description refers to
-target_below : (files : List (Option File)) (pipes : List (Option (List ℕ))) (t : Target) (p : ℕ) → TargetIsThere files pipes t → is_pipe p t ≡ true → p < length pipes
+target_below : (files : List (Option File)) (pipes : List (Option (List ℕ))) (t : Target) (p : ℕ) → TargetIsThere files pipes t → is_pipe p t ≡ true →
+    p < length pipes
 target_below files pipes (target.Regular f) p there is = cc
 target_below files pipes (target.Pipe q) p there is = let same = eqb-true q p is in there_below pipes p (subst (IsThere pipes) same there)
 target_below files pipes (target.Fifo f q) p there is = let same = eqb-true q p is in there_below pipes p (subst (IsThere pipes) same there.1)
@@ -93,7 +106,8 @@ pair_goes w process reading writing whole =
     let first = pipes_go w (w.pipes ++ Some [] ∷ []) whole (adds_push w.pipes (Some [])) in
     let there : IsThere u.pipes p = pushed_there w.pipes [] in
     let its : IsItsFifo w.files (target.Pipe p) = λ g x q h k is.
-    let same : p ≡ q = eqb-true p q is in let below = below_next w g q whole (record { fifo = x; stands = h; its_pipe = k }) in absurd (omega (arith, same, below)) in
+    let same : p ≡ q = eqb-true p q is in let below = below_next w g q whole (record { fifo = x; stands = h; its_pipe = k }) in
+    absurd (omega (arith, same, below)) in
     let v = with_description u process reading (end_of p mode.Read) in
     let last = with_description v process writing (end_of p mode.Write) in
     let second = opened_goes u process reading (end_of p mode.Read) first.whole there its tt in
@@ -101,7 +115,8 @@ pair_goes w process reading writing whole =
     goes_twice w u last first (goes_twice u v last second third)
 
 -- a file of which an end is opened is of its kind
-opened_kind : (P : Option File → Bool) (mode : Mode) (q : ℕ) → ((x y : Fifo) → P (Some (file.Fifo x)) ≡ P (Some (file.Fifo y))) → (x : Option File) → P (option_map (opened_file mode q) x) ≡ P x
+opened_kind : (P : Option File → Bool) (mode : Mode) (q : ℕ) → ((x y : Fifo) → P (Some (file.Fifo x)) ≡ P (Some (file.Fifo y))) → (x : Option File) →
+    P (option_map (opened_file mode q) x) ≡ P x
 opened_kind P mode q same None = refl
 opened_kind P mode q same (Some (file.Regular bytes)) = refl
 opened_kind P mode q same (Some (file.Fifo x)) = same (opened_once mode q x) x
@@ -116,7 +131,8 @@ same_number : (n : ℕ) → eqb n n ≡ true
 same_number n = eq-eqb n n refl
 
 -- which is the only FIFO that may have a pipe that it had not
-opened_has : (xs : List (Option File)) (f q : ℕ) (mode : Mode) (g p : ℕ) → HasPipe (set xs f (option_map (opened_file mode q) (slot xs f))) g p → HasPipe xs g p ⊎ ((g ≡ f) × (p ≡ q))
+opened_has : (xs : List (Option File)) (f q : ℕ) (mode : Mode) (g p : ℕ) → HasPipe (set xs f (option_map (opened_file mode q) (slot xs f))) g p →
+    HasPipe xs g p ⊎ ((g ≡ f) × (p ≡ q))
 opened_has [] f q mode g p h = inl h
 opened_has (None ∷ xs) zero q mode zero p h = let e : None ≡ Some (file.Fifo h.fifo) = h.stands in cc
 opened_has (Some (file.Regular bytes) ∷ xs) zero q mode zero p h = let e : Some (file.Regular bytes) ≡ Some (file.Fifo h.fifo) = h.stands in cc
@@ -135,7 +151,8 @@ opened_has (z ∷ xs) (suc f) q mode (suc g) p h = further (opened_has xs f q mo
     further (inr new) = inr (ap suc new.0, new.1)
 
 -- the other FIFOs keep their pipes, and so does it where it is opened on its own
-opened_stay : (xs : List (Option File)) (f q : ℕ) (mode : Mode) → ((p : ℕ) → pipe_in (slot xs f) ≡ Some p → q ≡ p) → PipesStay xs (set xs f (option_map (opened_file mode q) (slot xs f)))
+opened_stay : (xs : List (Option File)) (f q : ℕ) (mode : Mode) → ((p : ℕ) → pipe_in (slot xs f) ≡ Some p → q ≡ p) →
+    PipesStay xs (set xs f (option_map (opened_file mode q) (slot xs f)))
 opened_stay [] f q mode same g p h = h
 opened_stay (None ∷ xs) zero q mode same zero p h = cc
 opened_stay (Some (file.Regular bytes) ∷ xs) zero q mode same zero p h = cc
@@ -145,7 +162,8 @@ opened_stay (z ∷ xs) (suc f) q mode same zero p h = h
 opened_stay (z ∷ xs) (suc f) q mode same (suc g) p h = opened_stay xs f q mode same g p h
 
 -- and it has that pipe then
-opened_on : (xs : List (Option File)) (f q : ℕ) (mode : Mode) → is_fifo (slot xs f) ≡ true → pipe_in (slot (set xs f (option_map (opened_file mode q) (slot xs f))) f) ≡ Some q
+opened_on : (xs : List (Option File)) (f q : ℕ) (mode : Mode) → is_fifo (slot xs f) ≡ true →
+    pipe_in (slot (set xs f (option_map (opened_file mode q) (slot xs f))) f) ≡ Some q
 opened_on [] f q mode h = cc
 opened_on (None ∷ xs) zero q mode h = cc
 opened_on (Some (file.Regular bytes) ∷ xs) zero q mode h = cc
@@ -171,16 +189,19 @@ record Opening (w : World) (f q : ℕ) (mode : Mode) (pipes : List (Option (List
   its : IsItsFifo (files_opened w f q mode) (target.Fifo f q)
   on : IsOnItsPipe (files_opened w f q mode) (target.Fifo f q)
 
-opening_on : (w : World) (f q : ℕ) (mode : Mode) (pipes : List (Option (List ℕ))) → IsWhole w → is_fifo (slot w.files f) ≡ true → OpensOn w f q pipes → Opening w f q mode pipes
+opening_on : (w : World) (f q : ℕ) (mode : Mode) (pipes : List (Option (List ℕ))) → IsWhole w → is_fifo (slot w.files f) ≡ true → OpensOn w f q pipes →
+    Opening w f q mode pipes
 opening_on w f q mode pipes whole fifo on =
     let old = slot w.files f in
     let new = option_map (opened_file mode q) old in
-    let more = files_set w.files f new (opened_kind is_some mode q (λ _ _. refl) old) (opened_kind is_regular_file mode q (λ _ _. refl) old) (opened_kind is_fifo mode q (λ _ _. refl) old) in
+    let more = files_set w.files f new (opened_kind is_some mode q (λ _ _. refl) old) (opened_kind is_regular_file mode q (λ _ _. refl) old)
+    (opened_kind is_fifo mode q (λ _ _. refl) old) in
     record {
       goes = contents_go w (files_opened w f q mode) pipes whole more on.added
           (each_set (PipeIsThere pipes) w.files f new (λ n x h. fifo_pipe_stays w.pipes pipes on.added x (whole.fifos n x h)) (λ x h. opened_there old x h))
           (λ n d h g x p k i is. by_end n d h g p is (opened_has w.files f q mode g p (record { fifo = x; stands = k; its_pipe = i })))
-          (λ a b x y p h k i j. by_both a b p (opened_has w.files f q mode a p (record { fifo = x; stands = h; its_pipe = i })) (opened_has w.files f q mode b p (record { fifo = y; stands = k; its_pipe = j })))
+          (λ a b x y p h k i j. by_both a b p (opened_has w.files f q mode a p (record { fifo = x; stands = h; its_pipe = i }))
+          (opened_has w.files f q mode b p (record { fifo = y; stands = k; its_pipe = j })))
           (opened_stay w.files f q mode on.same);
       on = opened_on w.files f q mode fifo;
       there = (more.fifo f fifo, on.there);
@@ -192,9 +213,11 @@ opening_on w f q mode pipes whole fifo on =
     opened_there (Some (file.Regular bytes)) x h = let same : file.Regular bytes ≡ x = cc in subst (PipeIsThere pipes) same tt
     opened_there (Some (file.Fifo y)) x h =
         let same : file.Fifo (opened_once mode q y) ≡ x = cc in
-        subst (PipeIsThere pipes) same (λ p k. let is : Some q ≡ Some p = sym (opened_pipe mode q y) ∙ k in let e : q ≡ p = cc in subst (IsThere pipes) e on.there)
+        subst (PipeIsThere pipes) same (λ p k. let is : Some q ≡ Some p = sym (opened_pipe mode q y) ∙ k in let e : q ≡ p = cc in
+        subst (IsThere pipes) e on.there)
 
-    by_end : (n : ℕ) (d : Description) → slot w.descriptions n ≡ Some d → (g p : ℕ) → is_pipe p d.target ≡ true → HasPipe w.files g p ⊎ ((g ≡ f) × (p ≡ q)) → is_file g d.target ≡ true
+    by_end : (n : ℕ) (d : Description) → slot w.descriptions n ≡ Some d → (g p : ℕ) → is_pipe p d.target ≡ true → HasPipe w.files g p ⊎ ((g ≡ f) × (p ≡ q)) →
+        is_file g d.target ≡ true
     by_end n d h g p is (inl old) = whole.ends n d h g old.fifo p old.stands old.its_pipe is
     by_end n d h g p is (inr new) = ap (λ m. is_file m d.target) new.0 ∙ on.ends n d h (ap (λ m. is_pipe m d.target) (sym new.1) ∙ is)
 
@@ -242,7 +265,8 @@ opens_between w f (Some (file.Fifo x)) e fifo whole = by_pipe x.pipe refl
     by_pipe (Some q) h = rw h (opens_own w f q whole (record { fifo = x; stands = e; its_pipe = h }))
 
 -- a new description of an end of a FIFO
-pub end_goes : (w : World) (process fd f : ℕ) (d : Description) → IsWhole w → CanOpenEnd w process fd f d → Goes w (with_table w (on_table.OpenEnd process fd f d))
+pub end_goes : (w : World) (process fd f : ℕ) (d : Description) → IsWhole w → CanOpenEnd w process fd f d →
+    Goes w (with_table w (on_table.OpenEnd process fd f d))
 end_goes w process fd f d whole can =
     let q = pipe_between w (fifo_at (slot w.files f)) in
     let pipes = with_pipe_for (pipe_of_fifo (fifo_at (slot w.files f))) w.pipes in

@@ -61,7 +61,8 @@ table_keeps w (on_table.OpenPair process reading writing) =
     let first = described_keeps u process reading (end_of p mode.Read) in
     let second = described_keeps (with_description u process reading (end_of p mode.Read)) process writing (end_of p mode.Write) in
     record { all = second.all ∙ first.all; living = second.living ∙ first.living; closed = refl }
-table_keeps w (on_table.OpenEnd process fd f d) = let same = described_keeps (with_opening w f d.mode) process fd d in record { all = same.all; living = same.living; closed = same.closed }
+table_keeps w (on_table.OpenEnd process fd f d) = let same = described_keeps (with_opening w f d.mode) process fd d in
+    record { all = same.all; living = same.living; closed = same.closed }
 table_keeps w (on_table.Entry process fd entry) = descriptor_keeps w process fd entry
 
 -- a process that is there and goes is one less
@@ -74,14 +75,16 @@ live_emptied {T} (first ∷ slots) (suc n) h =
     omega (arith, live_emptied slots n h, sum_by-cons (λ p. cond (is_some p) 1 0) first slots, sum_by-cons (λ p. cond (is_some p) 1 0) first (set slots n none))
 
 -- an edit of a process leaves their number
-edited_count : (w : World) (p : ℕ) (edit : Process → Process) → Counts w (record w { processes = set w.processes p (option_map edit (slot w.processes p)) }) 0 0 false
+edited_count : (w : World) (p : ℕ) (edit : Process → Process) → Counts w (record w { processes = set w.processes p (option_map edit (slot w.processes p)) }) 0 0
+    false
 edited_count w p edit = record {
   all = omega (arith, length-set w.processes p (option_map edit (slot w.processes p)));
   living = omega (arith, live_edited edit w.processes p);
   closed = refl;
 }
 
-processes_count : (w : World) (e : ProcessEdit) → ((p : ℕ) → e ≡ on_process.Exit p → IsThere w.processes p) → Counts w (with_processes w e) (makes e) (ended_by e) (closed_by e)
+processes_count : (w : World) (e : ProcessEdit) → ((p : ℕ) → e ≡ on_process.Exit p → IsThere w.processes p) →
+    Counts w (with_processes w e) (makes e) (ended_by e) (closed_by e)
 processes_count w on_process.Nothing there = record { all = omega arith; living = omega arith; closed = refl }
 processes_count w (on_process.Add table attached) there = record {
   all = length-append w.processes (Some (process_with table attached) ∷ []);
@@ -117,9 +120,15 @@ swept_counts : (w v : World) (more ends : ℕ) (closing : Bool) → Counts w v m
 swept_counts w v more ends closing c = record { all = c.all; living = c.living; closed = c.closed }
 
 counted_as : (w v : World) (m n e f : ℕ) (b c : Bool) → m ≡ n → e ≡ f → b ≡ c → Counts w v m e b → Counts w v n f c
-counted_as w v m n e f b c more ends closing counts = record { all = rw (← more) counts.all; living = rw (← more, ← ends) counts.living; closed = rw (← closing) counts.closed }
+counted_as w v m n e f b c more ends closing counts = record {
+  all = rw (← more) counts.all;
+  living = rw (← more, ← ends) counts.living;
+  closed =
+      rw (← closing) counts.closed;
+}
 
-stepped_counts : (w : World) (act : Act) (d : Decided) (n : ℕ) → IsTold w act d.outcome d.change.process → makes d.change.process ≡ n → Counts w (stepped w (given act) d).world n (ended act) (closes act)
+stepped_counts : (w : World) (act : Act) (d : Decided) (n : ℕ) → IsTold w act d.outcome d.change.process → makes d.change.process ≡ n →
+    Counts w (stepped w (given act) d).world n (ended act) (closes act)
 stepped_counts w act d n told same =
     let e = d.change.process in
     counted_as w (stepped w (given act) d).world (makes e) n (ended_by e) (ended act) (closed_by e) (closes act) same told.ended told.closed

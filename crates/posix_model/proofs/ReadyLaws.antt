@@ -16,11 +16,13 @@ use Rattle.posix_model.proofs.WaitLaws.{ready_reads, ready_writes}
 use Rattle.posix_model.proofs.Waiting.{number_led}
 
 -- the next try of a call that waits on an end of a pipe
-next_is : (bounds : Bounds) (w : World) (p : ℕ) (c : Call) (pipe : ℕ) (on : WaitsOn w p c pipe) → is_here (slot w.processes p) ≡ true → next_of bounds w p ≡ try_again bounds w p on.end on.parked pipe c
+next_is : (bounds : Bounds) (w : World) (p : ℕ) (c : Call) (pipe : ℕ) (on : WaitsOn w p c pipe) → is_here (slot w.processes p) ≡ true →
+    next_of bounds w p ≡ try_again bounds w p on.end on.parked pipe c
 next_is bounds w p c pipe on here =
     ap (λ b. cond b (try_parked bounds w p (parked_of (slot w.processes p))) None) here ∙
     (ap (try_parked bounds w p) on.waits ∙
-    (ap (try_opened bounds w p on.parked) on.end_is ∙ (ap (try_on bounds w p on.parked on.end) on.pipe_is ∙ ap (try_again bounds w p on.end on.parked pipe) on.call_is)))
+    (ap (try_opened bounds w p on.parked) on.end_is ∙
+    (ap (try_on bounds w p on.parked on.end) on.pipe_is ∙ ap (try_again bounds w p on.end on.parked pipe) on.call_is)))
 
 some_if : (b : Bool) (x : Try) → is_some (cond b (Some x) None) ≡ b
 some_if true x = refl
@@ -37,7 +39,8 @@ waiting_write_is_ready bounds w p fd bytes pipe each on =
     let left : HasLeft (call.Write fd bytes) on.parked.moved = subst (λ (c : Call). HasLeft c on.parked.moved) on.call_is well.moved in
     let len = length bytes in
     ap is_some (next_is bounds w p (call.Write fd bytes) pipe on well.here) ∙
-    (some_if (write_ready bounds w pipe len) (write_try bounds w pipe (source.Parked p) len on.parked.moved) ∙ ready_writes bounds w pipe (source.Parked p) len on.parked.moved left.0 left.1)
+    (some_if (write_ready bounds w pipe len) (write_try bounds w pipe (source.Parked p) len on.parked.moved) ∙
+    ready_writes bounds w pipe (source.Parked p) len on.parked.moved left.0 left.1)
 
 pub ready_open_ends : ReadyOpenEnds
 ready_open_ends bounds w p name flags pipe d on h = by_here (is_here (slot w.processes p)) refl
@@ -45,7 +48,8 @@ ready_open_ends bounds w p name flags pipe d on h = by_here (is_here (slot w.pro
     of_end : on.end.fd ≡ on.parked.fd
     of_end = (number_led w on.parked.fd (slot (table_of (slot w.processes p)) on.parked.fd) on.end on.end_is).0
 
-    by_ready : (b : Bool) → option_map (next_try p) (cond b (Some (Ends (Number on.end.fd) on_files.Nothing)) None) ≡ Some d → d.outcome ≡ Replied (Number on.parked.fd)
+    by_ready : (b : Bool) → option_map (next_try p) (cond b (Some (Ends (Number on.end.fd) on_files.Nothing)) None) ≡ Some d →
+        d.outcome ≡ Replied (Number on.parked.fd)
     by_ready true k =
         let same : next_try p (Ends (Number on.end.fd) on_files.Nothing) ≡ d = cc in
         ap (λ (x : Decided). x.outcome) (sym same) ∙ ap (λ n. Replied (Number n)) of_end

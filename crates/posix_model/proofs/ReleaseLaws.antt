@@ -23,7 +23,8 @@ same_or_not m n = elim (m == n) as (λ b. (m == n) ≡ b → ((m ≡ n) × (b �
 ] refl
 
 -- what of a count is left where one place may be emptied
-count_left : {T : Type 0} (t : Option T → Bool) (b : Bool) (xs : List (Option T)) (n : ℕ) → t None ≡ false → t (slot xs n) ≡ false → count_by t (cond b xs (set xs n None)) ≡ count_by t xs
+count_left : {T : Type 0} (t : Option T → Bool) (b : Bool) (xs : List (Option T)) (n : ℕ) → t None ≡ false → t (slot xs n) ≡ false →
+    count_by t (cond b xs (set xs n None)) ≡ count_by t xs
 count_left {T} t true xs n none h = refl
 count_left {T} t false xs n none h = emptied xs n h
   where
@@ -62,9 +63,12 @@ other_number m n apart = elim (same_or_not n m) [
 -- the pipes
 pipes_swept : {T : Type 0} (ds es : List (Option Description)) (pipes : List (Option T)) (t : Target) → CountsStay ds es t →
     ((n : ℕ) → is_some (slot pipes n) ≡ true → 0 < readers ds n + writers ds n) → kept (is_open es) pipes ≡ pipes_after es pipes t
-pipes_swept ds es pipes (target.Regular f) stay full = kept_all (is_open es) pipes (λ m there. lt-ltb 0 (readers es m + writers es m) (omega (arith, stay.ends m refl, full m there)))
-pipes_swept ds es pipes (target.Pipe p) stay full = kept_at (is_open es) pipes p (λ m other there. lt-ltb 0 (readers es m + writers es m) (omega (arith, stay.ends m (other_number m p other), full m there)))
-pipes_swept ds es pipes (target.Fifo f p) stay full = kept_at (is_open es) pipes p (λ m other there. lt-ltb 0 (readers es m + writers es m) (omega (arith, stay.ends m (other_number m p other), full m there)))
+pipes_swept ds es pipes (target.Regular f) stay full =
+    kept_all (is_open es) pipes (λ m there. lt-ltb 0 (readers es m + writers es m) (omega (arith, stay.ends m refl, full m there)))
+pipes_swept ds es pipes (target.Pipe p) stay full =
+    kept_at (is_open es) pipes p (λ m other there. lt-ltb 0 (readers es m + writers es m) (omega (arith, stay.ends m (other_number m p other), full m there)))
+pipes_swept ds es pipes (target.Fifo f p) stay full =
+    kept_at (is_open es) pipes p (λ m other there. lt-ltb 0 (readers es m + writers es m) (omega (arith, stay.ends m (other_number m p other), full m there)))
 
 -- a FIFO knows its pipe still
 abbrev pipe_in : Option File → Option ℕ
@@ -72,11 +76,13 @@ pipe_in None = None
 pipe_in (Some (file.Regular bytes)) = None
 pipe_in (Some (file.Fifo fifo)) = fifo.pipe
 
-knows_still : (ds es : List (Option Description)) (y : Option File) → ((x : Fifo) (p : ℕ) → y ≡ Some (file.Fifo x) → x.pipe ≡ Some p → is_open ds p ≡ true → is_open es p ≡ true) →
+knows_still : (ds es : List (Option Description)) (y : Option File) → ((x : Fifo) (p : ℕ) → y ≡ Some (file.Fifo x) → x.pipe ≡ Some p → is_open ds p ≡ true →
+    is_open es p ≡ true) →
     without_gone_pipe ds y ≡ y → without_gone_pipe es y ≡ y
 knows_still ds es None h same = refl
 knows_still ds es (Some (file.Regular bytes)) h same = refl
-knows_still ds es (Some (file.Fifo fifo)) h same = ap (λ pipe. Some (file.Fifo (record fifo { pipe = pipe }))) (still fifo.pipe (λ p e. h fifo p refl e) (ap pipe_in same))
+knows_still ds es (Some (file.Fifo fifo)) h same = ap (λ pipe. Some (file.Fifo (record fifo { pipe = pipe })))
+    (still fifo.pipe (λ p e. h fifo p refl e) (ap pipe_in same))
   where
     still : (pipe : Option ℕ) → ((p : ℕ) → pipe ≡ Some p → is_open ds p ≡ true → is_open es p ≡ true) → open_pipe ds pipe ≡ pipe → open_pipe es pipe ≡ pipe
     still None h same = refl
@@ -106,16 +112,22 @@ fifos_swept ds es files t stay its settled = by_target t stay its
 -- the files
 files_swept : (ns : Entries) (ds es : List (Option Description)) (files : List (Option File)) (t : Target) → CountsStay ds es t →
     ((n : ℕ) → is_some (slot files n) ≡ true → 0 < links ns n + holders ds n) → kept (is_wanted ns es) files ≡ files_after ns es files t
-files_swept ns ds es files (target.Regular f) stay full = kept_at (is_wanted ns es) files f (λ m other there. lt-ltb 0 (links ns m + holders es m) (omega (arith, stay.holders m (other_number m f other), full m there)))
-files_swept ns ds es files (target.Pipe p) stay full = kept_all (is_wanted ns es) files (λ m there. lt-ltb 0 (links ns m + holders es m) (omega (arith, stay.holders m refl, full m there)))
-files_swept ns ds es files (target.Fifo f p) stay full = kept_at (is_wanted ns es) files f (λ m other there. lt-ltb 0 (links ns m + holders es m) (omega (arith, stay.holders m (other_number m f other), full m there)))
+files_swept ns ds es files (target.Regular f) stay full =
+    kept_at (is_wanted ns es) files f (λ m other there. lt-ltb 0 (links ns m + holders es m)
+    (omega (arith, stay.holders m (other_number m f other), full m there)))
+files_swept ns ds es files (target.Pipe p) stay full =
+    kept_all (is_wanted ns es) files (λ m there. lt-ltb 0 (links ns m + holders es m) (omega (arith, stay.holders m refl, full m there)))
+files_swept ns ds es files (target.Fifo f p) stay full =
+    kept_at (is_wanted ns es) files f (λ m other there. lt-ltb 0 (links ns m + holders es m)
+    (omega (arith, stay.holders m (other_number m f other), full m there)))
 
 pub sweep_releases : SweepReleases
 sweep_releases w ps n d settled is its stays =
     let t = d.target in
     let es = released_descriptions ps w.descriptions n in
     let stay : CountsStay w.descriptions es t = counts_stay w.descriptions n d (is_referred ps n) is in
-    let descriptions : kept (is_referred ps) w.descriptions ≡ es = kept_at (is_referred ps) w.descriptions n (λ m other there. lt-ltb 0 (refs ps m) (stays m other (settled.descriptions m there))) in
+    let descriptions : kept (is_referred ps) w.descriptions ≡ es = kept_at (is_referred ps) w.descriptions n
+    (λ m other there. lt-ltb 0 (refs ps m) (stays m other (settled.descriptions m there))) in
     let pipes : kept (is_open es) w.pipes ≡ pipes_after es w.pipes t = pipes_swept w.descriptions es w.pipes t stay settled.pipes in
     let fifos : map (without_gone_pipe es) w.files ≡ fifos_after es w.files t = fifos_swept w.descriptions es w.files t stay its settled.fifos in
     let still = λ (m : ℕ). ap is_some (slot_mapped (without_gone_pipe es) refl w.files m) ∙ still_there es (slot w.files m) in
@@ -128,13 +140,17 @@ pub swept_is_settled : SweptIsSettled
 swept_is_settled w same =
     let P : World → Type 0 = λ v. LeavesThere w v in
     let left : LeavesThere w w = subst P same (sweep_leaves_there w) in
-    let Q : World → Type 0 = λ v. (n : ℕ) → slot v.files n ≡ cond (is_wanted w.names v.descriptions n) (without_gone_pipe v.descriptions (slot w.files n)) None in
+    let Q : World → Type 0 = λ v. (n : ℕ) → slot v.files n ≡ cond (is_wanted w.names v.descriptions n) (without_gone_pipe v.descriptions (slot w.files n))
+    None in
     let all : Q w = subst Q same ((sweep_leaves w).files) in
     record {
-      descriptions = λ n there. ltb-true 0 (refs w.processes n) (both (is_some (slot w.descriptions n)) (is_referred w.processes n) (sym (left.descriptions n) ∙ there));
-      pipes = λ n there. ltb-true 0 (readers w.descriptions n + writers w.descriptions n) (both (is_some (slot w.pipes n)) (is_open w.descriptions n) (sym (left.pipes n) ∙ there));
+      descriptions = λ n there. ltb-true 0 (refs w.processes n) (both (is_some (slot w.descriptions n)) (is_referred w.processes n) (sym (left.descriptions n) ∙
+          there));
+      pipes = λ n there. ltb-true 0 (readers w.descriptions n + writers w.descriptions n)
+          (both (is_some (slot w.pipes n)) (is_open w.descriptions n) (sym (left.pipes n) ∙ there));
       fifos = λ n. kept_place (is_wanted w.names w.descriptions n) (slot w.files n) w.descriptions (all n);
-      files = λ n there. ltb-true 0 (links w.names n + holders w.descriptions n) (both (is_some (slot w.files n)) (is_wanted w.names w.descriptions n) (sym (left.files n) ∙ there));
+      files = λ n there. ltb-true 0 (links w.names n + holders w.descriptions n) (both (is_some (slot w.files n)) (is_wanted w.names w.descriptions n)
+          (sym (left.files n) ∙ there));
     }
   where
     both : (a b : Bool) → (a && b) ≡ true → b ≡ true
@@ -149,7 +165,8 @@ swept_is_settled w same =
 pub settled_stays : SettledStays
 settled_stays w settled =
     let ds = w.descriptions in
-    let descriptions : kept (is_referred w.processes) ds ≡ ds = kept_all (is_referred w.processes) ds (λ m there. lt-ltb 0 (refs w.processes m) (settled.descriptions m there)) in
+    let descriptions : kept (is_referred w.processes) ds ≡ ds =
+    kept_all (is_referred w.processes) ds (λ m there. lt-ltb 0 (refs w.processes m) (settled.descriptions m there)) in
     let pipes : kept (is_open ds) w.pipes ≡ w.pipes = kept_all (is_open ds) w.pipes (λ m there. lt-ltb 0 _ (settled.pipes m there)) in
     let fifos : map (without_gone_pipe ds) w.files ≡ w.files = map_all (without_gone_pipe ds) w.files settled.fifos in
     let files : kept (is_wanted w.names ds) w.files ≡ w.files = kept_all (is_wanted w.names ds) w.files (λ m there. lt-ltb 0 _ (settled.files m there)) in
@@ -159,7 +176,8 @@ settled_stays w settled =
 pub names_release : NamesRelease
 names_release w names f settled stays =
     let ds = w.descriptions in
-    let descriptions : kept (is_referred w.processes) ds ≡ ds = kept_all (is_referred w.processes) ds (λ m there. lt-ltb 0 (refs w.processes m) (settled.descriptions m there)) in
+    let descriptions : kept (is_referred w.processes) ds ≡ ds =
+    kept_all (is_referred w.processes) ds (λ m there. lt-ltb 0 (refs w.processes m) (settled.descriptions m there)) in
     let pipes : kept (is_open ds) w.pipes ≡ w.pipes = kept_all (is_open ds) w.pipes (λ m there. lt-ltb 0 _ (settled.pipes m there)) in
     let fifos : map (without_gone_pipe ds) w.files ≡ w.files = map_all (without_gone_pipe ds) w.files settled.fifos in
     let files : kept (is_wanted names ds) w.files ≡ released_file names ds w.files f = kept_at (is_wanted names ds) w.files f (λ m other there.
@@ -179,4 +197,5 @@ pub sweep_counts : SweepCounts
 sweep_counts w names same =
     let ds = kept (is_referred w.processes) w.descriptions in
     let fs = map (without_gone_pipe ds) w.files in
-    ap (λ files. record (sweep w) { names = names; files = files }) (kept_same (is_wanted names ds) (is_wanted w.names ds) (λ n. ap (λ k. ltb 0 (k + holders ds n)) (same n)) 0 fs)
+    ap (λ files. record (sweep w) { names = names; files = files })
+    (kept_same (is_wanted names ds) (is_wanted w.names ds) (λ n. ap (λ k. ltb 0 (k + holders ds n)) (same n)) 0 fs)

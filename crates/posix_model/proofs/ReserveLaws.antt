@@ -20,7 +20,8 @@ few_ended act.CloseRun = omega arith
 few_ended other = omega arith
 
 -- after a step one exit less is left at most
-exits_less : (closed closing : Bool) (before after more ends : ℕ) → after + ends ≡ before + more → ends + cond closing 1 0 ≤ 1 → cond closed before (before + 1) ≤ cond (closing || closed) after (after + 1) + 1
+exits_less : (closed closing : Bool) (before after more ends : ℕ) → after + ends ≡ before + more → ends + cond closing 1 0 ≤ 1 →
+    cond closed before (before + 1) ≤ cond (closing || closed) after (after + 1) + 1
 exits_less true true before after more ends living few = omega arith
 exits_less true false before after more ends living few = omega arith
 exits_less false true before after more ends living few = omega arith
@@ -43,7 +44,8 @@ was_left bounds w len (r ∷ rs) =
     let rest = was_left bounds (after bounds w r) (len + 1) rs in
     omega (arith, first, rest)
 
-could_end : (bounds : Bounds) (most : ℕ) (w : World) (len : ℕ) (h : List Record) → (len + length h) + exits_left (world_from bounds w h) ≤ most → CanEndFrom bounds (Some most) w len h
+could_end : (bounds : Bounds) (most : ℕ) (w : World) (len : ℕ) (h : List Record) → (len + length h) + exits_left (world_from bounds w h) ≤ most →
+    CanEndFrom bounds (Some most) w len h
 could_end bounds most w len [] fits = tt
 could_end bounds most w len (r ∷ rs) fits =
     let v = after bounds w r in

@@ -26,21 +26,25 @@ use Rattle.posix_model.proofs.SweepLaws.{step_parts}
 
 -- what holds of the next try of each call that waits on an end of a pipe holds of a resume
 pub resume_has : (Has : Decided → Type 0) (bounds : Bounds) (w : World) (p : ℕ) (d : Decided) →
-    ((parked : Parked) (o : OpenDescriptor) (pipe : ℕ) (t : Try) → parked_of (slot w.processes p) ≡ Some parked → opened w p (pos parked.fd) ≡ Some o → pipe_at o.description.target ≡ Some pipe →
+    ((parked : Parked) (o : OpenDescriptor) (pipe : ℕ) (t : Try) → parked_of (slot w.processes p) ≡ Some parked → opened w p (pos parked.fd) ≡ Some o →
+    pipe_at o.description.target ≡ Some pipe →
     try_again bounds w p o parked pipe parked.call ≡ Some t → Has (next_try p t)) → resume bounds w p ≡ Some d → Has d
 resume_has Has bounds w p d all h = by_here (is_here (slot w.processes p)) h
   where
-    by_try : (parked : Parked) (o : OpenDescriptor) (pipe : ℕ) → parked_of (slot w.processes p) ≡ Some parked → opened w p (pos parked.fd) ≡ Some o → pipe_at o.description.target ≡ Some pipe →
+    by_try : (parked : Parked) (o : OpenDescriptor) (pipe : ℕ) → parked_of (slot w.processes p) ≡ Some parked → opened w p (pos parked.fd) ≡ Some o →
+        pipe_at o.description.target ≡ Some pipe →
         (x : Option Try) → try_again bounds w p o parked pipe parked.call ≡ x → option_map (next_try p) x ≡ Some d → Has d
     by_try parked o pipe is on at None e h = cc
     by_try parked o pipe is on at (Some t) e h = let same : next_try p t ≡ d = cc in subst Has same (all parked o pipe t is on at e)
 
-    by_pipe : (parked : Parked) (o : OpenDescriptor) → parked_of (slot w.processes p) ≡ Some parked → opened w p (pos parked.fd) ≡ Some o → (x : Option ℕ) → pipe_at o.description.target ≡ x →
+    by_pipe : (parked : Parked) (o : OpenDescriptor) → parked_of (slot w.processes p) ≡ Some parked → opened w p (pos parked.fd) ≡ Some o → (x : Option ℕ) →
+        pipe_at o.description.target ≡ x →
         option_map (next_try p) (try_on bounds w p parked o x) ≡ Some d → Has d
     by_pipe parked o is on None at h = cc
     by_pipe parked o is on (Some pipe) at h = by_try parked o pipe is on at (try_again bounds w p o parked pipe parked.call) refl h
 
-    by_opened : (parked : Parked) → parked_of (slot w.processes p) ≡ Some parked → (x : Option OpenDescriptor) → opened w p (pos parked.fd) ≡ x → option_map (next_try p) (try_opened bounds w p parked x) ≡ Some d → Has d
+    by_opened : (parked : Parked) → parked_of (slot w.processes p) ≡ Some parked → (x : Option OpenDescriptor) → opened w p (pos parked.fd) ≡ x →
+        option_map (next_try p) (try_opened bounds w p parked x) ≡ Some d → Has d
     by_opened parked is None on h = cc
     by_opened parked is (Some o) on h = by_pipe parked o is on (pipe_at o.description.target) refl h
 
@@ -57,7 +61,8 @@ abbrev Breaks : World → ℕ → Try → Type 0
 Breaks w p t = (error : Errno) → (next_try p t).outcome ≡ Replied (Error error) → BreaksAlone w p error (next_try p t)
 
 -- a write that nobody reads
-breaks_unread : (w : World) (p : ℕ) (fd : ℤ) (bytes : List ℕ) (pipe : ℕ) (on : WaitsOn w p (call.Write fd bytes) pipe) → has_reader w pipe ≡ false → Breaks w p (Ends (broken on.parked.moved) on_files.Nothing)
+breaks_unread : (w : World) (p : ℕ) (fd : ℤ) (bytes : List ℕ) (pipe : ℕ) (on : WaitsOn w p (call.Write fd bytes) pipe) → has_reader w pipe ≡ false →
+    Breaks w p (Ends (broken on.parked.moved) on_files.Nothing)
 breaks_unread w p fd bytes pipe on unread = by_moved (eqb on.parked.moved 0) refl
   where
     by_moved : (b : Bool) → eqb on.parked.moved 0 ≡ b → Breaks w p (Ends (cond b (Error EPIPE) (Number on.parked.moved)) on_files.Nothing)
@@ -71,12 +76,14 @@ not_true true h = cc
 not_true false h = refl
 
 -- the next try of a call that waits
-again_breaks : (bounds : Bounds) (w : World) (p : ℕ) (o : OpenDescriptor) (parked : Parked) (pipe : ℕ) (c : Call) (t : Try) → parked.call ≡ c → parked_of (slot w.processes p) ≡ Some parked → opened w p (pos parked.fd) ≡ Some o →
+again_breaks : (bounds : Bounds) (w : World) (p : ℕ) (o : OpenDescriptor) (parked : Parked) (pipe : ℕ) (c : Call) (t : Try) → parked.call ≡ c →
+    parked_of (slot w.processes p) ≡ Some parked → opened w p (pos parked.fd) ≡ Some o →
     pipe_at o.description.target ≡ Some pipe → try_again bounds w p o parked pipe c ≡ Some t → Breaks w p t
 again_breaks bounds w p o parked pipe (call.Read fd count) t same is on at h =
     let Has : Try → Type 0 = Breaks w p in
     some_try Has (read_ready w pipe) (read_try w pipe count) t
-    (try_has Has (not (eqb (held_in w pipe) 0)) (Ends (Data (take count (held_bytes w pipe))) (on_files.Take pipe count)) (cond (has_writer w pipe) (Waits 0 on_files.Nothing) (Ends (Data []) on_files.Nothing))
+    (try_has Has (not (eqb (held_in w pipe) 0)) (Ends (Data (take count (held_bytes w pipe))) (on_files.Take pipe count))
+    (cond (has_writer w pipe) (Waits 0 on_files.Nothing) (Ends (Data []) on_files.Nothing))
     (λ _ error e. cc) (λ _. try_has Has (has_writer w pipe) (Waits 0 on_files.Nothing) (Ends (Data []) on_files.Nothing) (λ _ error e. cc) (λ _ error e. cc))) h
 again_breaks bounds w p o parked pipe (call.Write fd bytes) t same is on at h =
     let Has : Try → Type 0 = Breaks w p in
@@ -91,7 +98,8 @@ again_breaks bounds w p o parked pipe (call.Write fd bytes) t same is on at h =
     some_try Has (write_ready bounds w pipe len) (write_try bounds w pipe from len parked.moved) t
     (try_has Has (not (has_reader w pipe)) (Ends (broken parked.moved) on_files.Nothing) (cond (leb rest room) fits later)
     (λ none. breaks_unread w p fd bytes pipe waits (not_true (has_reader w pipe) none))
-    (λ _. try_has Has (leb rest room) fits later (λ _ error e. cc) (λ _. try_has Has (leb len PIPE_BUF) (Waits parked.moved on_files.Nothing) large (λ _ error e. cc) (λ _ error e. cc)))) h
+    (λ _. try_has Has (leb rest room) fits later (λ _ error e. cc) (λ _. try_has Has (leb len PIPE_BUF) (Waits parked.moved on_files.Nothing) large
+    (λ _ error e. cc) (λ _ error e. cc)))) h
 again_breaks bounds w p o parked pipe (call.Open name flags) t same is on at h =
     some_try (Breaks w p) (open_ready w o pipe parked.openings) (Ends (Number o.fd) on_files.Nothing) t (λ error e. cc) h
 again_breaks bounds w p o parked pipe other t same is on at h = cc

@@ -34,14 +34,16 @@ drop_of_two n x y = elim (cases_lt n (length x)) [
 ]
 
 -- a part of two lists is a part of the first, and then one of the second
-part_of_two : (x y : List ℕ) (start count : ℕ) → bytes_at (x ++ y) start count ≡ bytes_at x start count ++ bytes_at y (start - length x) (count - length (bytes_at x start count))
+part_of_two : (x y : List ℕ) (start count : ℕ) → bytes_at (x ++ y) start count ≡ bytes_at x start count ++ bytes_at y (start - length x)
+    (count - length (bytes_at x start count))
 part_of_two x y start count =
     let rest : List ℕ = drop (start - length x) y in
     let left : count - length (drop start x) ≡ count - length (bytes_at x start count) = omega (arith, length-take count (drop start x)) in
     ap (take count) (drop_of_two start x y) ∙ (take_of_two count (drop start x) rest ∙ ap (λ k. bytes_at x start count ++ take k rest) left)
 
 -- the part of the first list is added: what is to come is the part of the second
-pub next_part : (file more here x y whole : List ℕ) (start count skip left : ℕ) → file ++ bytes_at (x ++ y) start count ≡ whole → here ≡ bytes_at x start count → more ≡ file ++ here → skip ≡ start - length x → left ≡ count - length here →
+pub next_part : (file more here x y whole : List ℕ) (start count skip left : ℕ) → file ++ bytes_at (x ++ y) start count ≡ whole →
+    here ≡ bytes_at x start count → more ≡ file ++ here → skip ≡ start - length x → left ≡ count - length here →
     more ++ bytes_at y skip left ≡ whole
 next_part file more here x y whole start count skip left is part added skipped counted =
     let here_part = bytes_at x start count in
@@ -53,7 +55,8 @@ pub part_is_short : (b : List ℕ) (start count : ℕ) → length (bytes_at b st
 part_is_short b start count = omega (arith, length-take count (drop start b))
 
 -- what is added is no longer left to add
-pub next_fits : (file more here x : List ℕ) (start count left most : ℕ) → length file + count < most → here ≡ bytes_at x start count → more ≡ file ++ here → left ≡ count - length here → length more + left < most
+pub next_fits : (file more here x : List ℕ) (start count left most : ℕ) → length file + count < most → here ≡ bytes_at x start count → more ≡ file ++ here →
+    left ≡ count - length here → length more + left < most
 next_fits file more here x start count left most fits part added counted =
     let few : length here ≤ count = rw part (part_is_short x start count) in
     let long : length more ≡ length file + length here = ap length added ∙ length-append file here in
@@ -73,17 +76,21 @@ before_a_write : (b : List ℕ) (start : ℕ) → take start (padded_to b start)
 before_a_write b start =
     let zeros : List ℕ = replicate (start - length b) 0 in
     let gap : start - length b ≡ start - length (take start b) = omega (arith, length-take start b) in
-    take_of_two start b zeros ∙ (ap (λ z. take start b ++ z) (take_all (start - length b) zeros (omega (arith, length-replicate {A = ℕ} (start - length b) 0))) ∙ ap (λ k. take start b ++ replicate k 0) gap)
+    take_of_two start b zeros ∙ (ap (λ z. take start b ++ z)
+    (take_all (start - length b) zeros (omega (arith, length-replicate {A = ℕ} (start - length b) 0))) ∙ ap (λ k. take start b ++ replicate k 0) gap)
 
 -- what stands after it
 after_a_write : (b : List ℕ) (start n : ℕ) → drop (start + n) (padded_to b start) ≡ drop (start + n) b
 after_a_write b start n =
     let zeros : List ℕ = replicate (start - length b) 0 in
-    drop_of_two (start + n) b zeros ∙ (ap (λ z. drop (start + n) b ++ z) (drop_all (start + n - length b) zeros (omega (arith, length-replicate {A = ℕ} (start - length b) 0))) ∙ append-nil (drop (start + n) b))
+    drop_of_two (start + n) b zeros ∙ (ap (λ z. drop (start + n) b ++ z)
+    (drop_all (start + n - length b) zeros (omega (arith, length-replicate {A = ℕ} (start - length b) 0))) ∙ append-nil (drop (start + n) b))
 
 -- what a write leaves, in three parts
-pub splice_parts : (b new : List ℕ) (start : ℕ) → (resized b start ++ new) ++ bytes_at b (start + length new) (length b - (start + length new)) ≡ splice b start new
+pub splice_parts : (b new : List ℕ) (start : ℕ) → (resized b start ++ new) ++ bytes_at b (start + length new) (length b - (start + length new))
+    ≡ splice b start new
 splice_parts b new start =
     let end = start + length new in
     let all : bytes_at b end (length b - end) ≡ drop end b = take_all (length b - end) (drop end b) (omega (arith, length-drop end b)) in
-    rw all (ap (λ z. (z ++ new) ++ drop end b) (sym (before_a_write b start)) ∙ ap (λ z. (take start (padded_to b start) ++ new) ++ z) (sym (after_a_write b start (length new))))
+    rw all (ap (λ z. (z ++ new) ++ drop end b) (sym (before_a_write b start)) ∙ ap (λ z. (take start (padded_to b start) ++ new) ++ z)
+    (sym (after_a_write b start (length new))))

@@ -45,7 +45,8 @@ pub adds_same : {T : Type 0} (xs : List (Option T)) → Adds xs xs
 adds_same xs = record { rises = record { longer = omega arith; gone = λ n below h. h }; there = λ n h. h }
 
 -- a place is written, and is as it was in this respect: so are all places
-pub test_set : {T K : Type 0} (p : Option T → K) (xs : List (Option T)) (m : ℕ) (y : Option T) (n : ℕ) → p y ≡ p (slot xs m) → p (slot (set xs m y) n) ≡ p (slot xs n)
+pub test_set : {T K : Type 0} (p : Option T → K) (xs : List (Option T)) (m : ℕ) (y : Option T) (n : ℕ) → p y ≡ p (slot xs m) →
+    p (slot (set xs m y) n) ≡ p (slot xs n)
 test_set p [] m y n e = refl
 test_set p (x ∷ xs) zero y zero e = e
 test_set p (x ∷ xs) zero y (suc n) e = refl
@@ -187,7 +188,8 @@ pub stays_as_is : {T K : Type 0} (respect : T → K) (xs : List (Option T)) → 
 stays_as_is respect xs n x y h k = let same : x ≡ y = cc in sym (ap respect same)
 
 -- where what is there was there
-pub stays_thinned : {T K : Type 0} (respect : T → K) (xs ys : List (Option T)) → ((n : ℕ) (y : T) → slot ys n ≡ Some y → slot xs n ≡ Some y) → StaysSame respect xs ys
+pub stays_thinned : {T K : Type 0} (respect : T → K) (xs ys : List (Option T)) → ((n : ℕ) (y : T) → slot ys n ≡ Some y → slot xs n ≡ Some y) →
+    StaysSame respect xs ys
 stays_thinned respect xs ys was n x y h k = let stood = was n y k in let same : x ≡ y = cc in sym (ap respect same)
 
 -- where a place is added
@@ -206,20 +208,23 @@ stays_set respect (v ∷ xs) zero z new (suc n) x y h k = stays_as_is respect xs
 stays_set respect (v ∷ xs) (suc m) z new zero x y h k = stays_as_is respect (v ∷ xs) zero x y h k
 stays_set respect (v ∷ xs) (suc m) z new (suc n) x y h k = stays_set respect xs m z new n x y h k
 
-in_between : {T K : Type 0} (respect : T → K) (y last : Option T) (x z : T) → (y ≡ None → last ≡ None) → ((m : T) → y ≡ Some m → respect z ≡ respect x) → last ≡ Some z →
+in_between : {T K : Type 0} (respect : T → K) (y last : Option T) (x z : T) → (y ≡ None → last ≡ None) → ((m : T) → y ≡ Some m → respect z ≡ respect x) →
+    last ≡ Some z →
     respect z ≡ respect x
 in_between respect None last x z none some h = let gone : last ≡ None = none refl in cc
 in_between respect (Some m) last x z none some h = some m refl
 
 -- what stands before and after two changes stood in between
-pub stays_twice : {T K : Type 0} (respect : T → K) (xs ys zs : List (Option T)) → Rises xs ys → Rises ys zs → StaysSame respect xs ys → StaysSame respect ys zs → StaysSame respect xs zs
+pub stays_twice : {T K : Type 0} (respect : T → K) (xs ys zs : List (Option T)) → Rises xs ys → Rises ys zs → StaysSame respect xs ys →
+    StaysSame respect ys zs → StaysSame respect xs zs
 stays_twice respect xs ys zs r s first second n x z h k =
     let longer = r.longer in
     let below = there_below xs n (stands_there xs n x h) in
     in_between respect (slot ys n) (slot zs n) x z (λ e. s.gone n (omega arith) e) (λ y e. second n y z e k ∙ first n x y h e) k
 
 -- a test that passes at each place that is full keeps all of them
-kept_from_all : {T : Type 0} (keeps : ℕ → Bool) (k : ℕ) (xs : List (Option T)) → ((n : ℕ) → is_some (slot xs n) ≡ true → keeps (k + n) ≡ true) → kept_from keeps k xs ≡ xs
+kept_from_all : {T : Type 0} (keeps : ℕ → Bool) (k : ℕ) (xs : List (Option T)) → ((n : ℕ) → is_some (slot xs n) ≡ true → keeps (k + n) ≡ true) →
+    kept_from keeps k xs ≡ xs
 kept_from_all keeps k [] h = refl
 kept_from_all keeps k (None ∷ xs) h =
     let rest = kept_from_all keeps (suc k) xs (λ n there. let e : suc k + n ≡ k + suc n = omega arith in rw e (h (suc n) there)) in
@@ -235,7 +240,8 @@ kept_all keeps xs h = kept_from_all keeps 0 xs (λ n there. let e : 0 + n ≡ n 
 -- with one place that may fail
 kept_from_at : {T : Type 0} (keeps : ℕ → Bool) (k : ℕ) (xs : List (Option T)) (n : ℕ) → ((m : ℕ) → m ≢ n → is_some (slot xs m) ≡ true → keeps (k + m) ≡ true) →
     kept_from keeps k xs ≡ cond (keeps (k + n)) xs (set xs n None)
-kept_from_at {T} keeps k [] n h = let P : Bool → Type 0 = λ b. ◌≡◌ {A = List (Option T)} [] (cond b [] []) in elim (keeps (k + n)) as P [ true ↦ refl | false ↦ refl ]
+kept_from_at {T} keeps k [] n h = let P : Bool → Type 0 = λ b. ◌≡◌ {A = List (Option T)} [] (cond b [] []) in
+    elim (keeps (k + n)) as P [ true ↦ refl | false ↦ refl ]
 kept_from_at keeps k (x ∷ xs) zero h =
     let e : k + 0 ≡ k = omega arith in
     let rest = kept_from_all keeps (suc k) xs (λ n there. let e : suc k + n ≡ k + suc n = omega arith in rw e (h (suc n) (omega arith) there)) in
@@ -243,7 +249,8 @@ kept_from_at keeps k (x ∷ xs) zero h =
 kept_from_at keeps k (None ∷ xs) (suc n) h =
     let e : k + suc n ≡ suc k + n = omega arith in
     let rest = kept_from_at keeps (suc k) xs n (λ m other there. let e : suc k + m ≡ k + suc m = omega arith in rw e (h (suc m) (omega arith) there)) in
-    rw (e, rest) (elim (keeps k) as (λ c. cond c None None ∷ cond (keeps (suc k + n)) xs (set xs n None) ≡ cond (keeps (suc k + n)) (None ∷ xs) (None ∷ set xs n None)) [
+    rw (e, rest) (elim (keeps k) as (λ c. cond c None None ∷ cond (keeps (suc k + n)) xs (set xs n None) ≡ cond (keeps (suc k + n)) (None ∷ xs)
+    (None ∷ set xs n None)) [
       | true ↦ elim (keeps (suc k + n)) as (λ b. None ∷ cond b xs (set xs n None) ≡ cond b (None ∷ xs) (None ∷ set xs n None)) [ true ↦ refl | false ↦ refl ]
       | false ↦ elim (keeps (suc k + n)) as (λ b. None ∷ cond b xs (set xs n None) ≡ cond b (None ∷ xs) (None ∷ set xs n None)) [ true ↦ refl | false ↦ refl ]
     ])
@@ -251,7 +258,11 @@ kept_from_at keeps k (Some x ∷ xs) (suc n) h =
     let e : k + suc n ≡ suc k + n = omega arith in
     let rest = kept_from_at keeps (suc k) xs n (λ m other there. let e : suc k + m ≡ k + suc m = omega arith in rw e (h (suc m) (omega arith) there)) in
     let here : keeps k ≡ true = let e : k ≡ k + 0 = omega arith in rw e (h 0 (omega arith) refl) in
-    rw (e, here, rest) (elim (keeps (suc k + n)) as (λ b. Some x ∷ cond b xs (set xs n None) ≡ cond b (Some x ∷ xs) (Some x ∷ set xs n None)) [ true ↦ refl | false ↦ refl ])
+    rw (e, here, rest) (elim (keeps (suc k + n)) as (λ b. Some x ∷ cond b xs (set xs n None) ≡ cond b (Some x ∷ xs) (Some x ∷ set xs n None)) [
+      | true ↦
+          refl
+      | false ↦ refl
+    ])
 
 pub kept_at : {T : Type 0} (keeps : ℕ → Bool) (xs : List (Option T)) (n : ℕ) → ((m : ℕ) → m ≢ n → is_some (slot xs m) ≡ true → keeps m ≡ true) →
     kept keeps xs ≡ cond (keeps n) xs (set xs n None)
@@ -264,7 +275,8 @@ pub map_all : {T : Type 0} (f : Option T → Option T) (xs : List (Option T)) �
 map_all f [] h = refl
 map_all f (x ∷ xs) h = rw (h 0, map_all f xs (λ m. h (suc m))) refl
 
-pub map_at : {T : Type 0} (f : Option T → Option T) (xs : List (Option T)) (n : ℕ) → ((m : ℕ) → m ≢ n → f (slot xs m) ≡ slot xs m) → map f xs ≡ set xs n (f (slot xs n))
+pub map_at : {T : Type 0} (f : Option T → Option T) (xs : List (Option T)) (n : ℕ) → ((m : ℕ) → m ≢ n → f (slot xs m) ≡ slot xs m) →
+    map f xs ≡ set xs n (f (slot xs n))
 map_at f [] n h = refl
 map_at f (x ∷ xs) zero h = ap (λ ys. f x ∷ ys) (map_all f xs (λ m. h (suc m) (omega arith)))
 map_at f (x ∷ xs) (suc n) h =

@@ -55,11 +55,13 @@ sought_within (pos n) o free = not_below OFFSET_MAX n (unmet (lseek_faults (pos 
 sought_within (negsuc n) o free = let none = unmet (lseek_faults (negsuc n) o) free true (search rules) in cc
 
 -- what lseek comes to sets the offset of the descriptor's own description, within all offsets
-sound_lseek : (bounds : Bounds) (w : World) (p : ℕ) (fd offset : ℤ) (from : Whence) (to : ℤ) (o : OpenDescriptor) → opened w p fd ≡ Some o → first_fault (lseek_faults to o) ≡ None →
+sound_lseek : (bounds : Bounds) (w : World) (p : ℕ) (fd offset : ℤ) (from : Whence) (to : ℤ) (o : OpenDescriptor) → opened w p fd ≡ Some o →
+    first_fault (lseek_faults to o) ≡ None →
     Answers bounds w p (call.Lseek fd offset from) (lseek_to to o).effect
 sound_lseek bounds w p fd offset from to o is free =
     sound_describes bounds w p (call.Lseek fd offset from) (Number (nat_abs to)) on_files.Nothing fd o (on_description.Offset (nat_abs to)) is refl
-    (record { done = λ error h. cc; adds_none = refl; plans_none = refl; few = omega arith; brief = omega arith }) (no_files bounds w (call.Lseek fd offset from)) refl refl (λ _ _. sought_within to o free)
+    (record { done = λ error h. cc; adds_none = refl; plans_none = refl; few = omega arith; brief = omega arith })
+    (no_files bounds w (call.Lseek fd offset from)) refl refl (λ _ _. sought_within to o free)
 
 -- one case for each call
 pub calls_are_sound : CallsAreSound
@@ -68,44 +70,58 @@ calls_are_sound bounds w p (call.Open name flags) =
     page_has (Answers bounds w p (call.Open name flags)) (open_file w p name flags) (sound_refused bounds w p (call.Open name flags) refl)
     (λ free. sound_open bounds w p name flags found refl (can_open w p name flags found free))
 calls_are_sound bounds w p (call.Close fd) =
-    on_open_has (Answers bounds w p (call.Close fd)) (opened w p fd) (close p) (sound_refused bounds w p (call.Close fd) refl) (λ o is _. sound_close bounds w p fd o (opened_stands w p fd o is))
+    on_open_has (Answers bounds w p (call.Close fd)) (opened w p fd) (close p) (sound_refused bounds w p (call.Close fd) refl)
+    (λ o is _. sound_close bounds w p fd o (opened_stands w p fd o is))
 calls_are_sound bounds w p (call.Read fd count) =
-    on_open_has (Answers bounds w p (call.Read fd count)) (opened w p fd) (read w p (call.Read fd count) count) (sound_refused bounds w p (call.Read fd count) refl)
+    on_open_has (Answers bounds w p (call.Read fd count)) (opened w p fd) (read w p (call.Read fd count) count)
+    (sound_refused bounds w p (call.Read fd count) refl)
     (λ o is free. sound_read bounds w p fd count o is free (pipe_at o.description.target) refl)
 calls_are_sound bounds w p (call.Write fd bytes) =
-    on_open_has (Answers bounds w p (call.Write fd bytes)) (opened w p fd) (write bounds w p (call.Write fd bytes) bytes) (sound_refused bounds w p (call.Write fd bytes) refl)
+    on_open_has (Answers bounds w p (call.Write fd bytes)) (opened w p fd) (write bounds w p (call.Write fd bytes) bytes)
+    (sound_refused bounds w p (call.Write fd bytes) refl)
     (λ o is free. sound_write bounds w p fd bytes (write_start o.description (length (bytes_of w (file_at o)))) o is free (pipe_at o.description.target) refl)
 calls_are_sound bounds w p (call.Pread fd start count) =
-    on_open_has (Answers bounds w p (call.Pread fd start count)) (opened w p fd) (pread w start count) (sound_refused bounds w p (call.Pread fd start count) refl)
+    on_open_has (Answers bounds w p (call.Pread fd start count)) (opened w p fd) (pread w start count)
+    (sound_refused bounds w p (call.Pread fd start count) refl)
     (λ o is free.
     let asked = not_below TRANSFER_MAX count (unmet (pread_faults start count o) free (ltb TRANSFER_MAX count) (search rules)) in
     let there = bytes_of w (file_at o) in
-    sound_tells bounds w p (call.Pread fd start count) (Data (bytes_at there (bytes_before start) count)) refl refl (omega arith) (read_few there (bytes_before start) count TRANSFER_MAX asked))
+    sound_tells bounds w p (call.Pread fd start count) (Data (bytes_at there (bytes_before start) count)) refl refl (omega arith)
+    (read_few there (bytes_before start) count TRANSFER_MAX asked))
 calls_are_sound bounds w p (call.Pwrite fd start bytes) =
-    on_open_has (Answers bounds w p (call.Pwrite fd start bytes)) (opened w p fd) (pwrite bounds start bytes) (sound_refused bounds w p (call.Pwrite fd start bytes) refl)
+    on_open_has (Answers bounds w p (call.Pwrite fd start bytes)) (opened w p fd) (pwrite bounds start bytes)
+    (sound_refused bounds w p (call.Pwrite fd start bytes) refl)
     (λ o is free. sound_pwrite bounds w p fd start bytes o is free)
 calls_are_sound bounds w p (call.Lseek fd offset from) =
-    on_open_has (Answers bounds w p (call.Lseek fd offset from)) (opened w p fd) (lseek w offset from) (sound_refused bounds w p (call.Lseek fd offset from) refl)
+    on_open_has (Answers bounds w p (call.Lseek fd offset from)) (opened w p fd) (lseek w offset from)
+    (sound_refused bounds w p (call.Lseek fd offset from) refl)
     (λ o is free. sound_lseek bounds w p fd offset from (pos (base_of w o from) +ℤ offset) o is free)
 calls_are_sound bounds w p (call.Ftruncate fd len) =
     on_open_has (Answers bounds w p (call.Ftruncate fd len)) (opened w p fd) (ftruncate bounds len) (sound_refused bounds w p (call.Ftruncate fd len) refl)
     (λ o is free. sound_ftruncate bounds w p fd len o (opened_stands w p fd o is) free)
 calls_are_sound bounds w p (call.Dup fd) =
-    on_open_has (Answers bounds w p (call.Dup fd)) (opened w p fd) (dup w p) (sound_refused bounds w p (call.Dup fd) refl) (λ o is free. sound_dup bounds w p fd o (opened_stands w p fd o is) free)
+    on_open_has (Answers bounds w p (call.Dup fd)) (opened w p fd) (dup w p) (sound_refused bounds w p (call.Dup fd) refl)
+    (λ o is free. sound_dup bounds w p fd o (opened_stands w p fd o is) free)
 calls_are_sound bounds w p (call.Dup2 fd to) =
-    on_open_has (Answers bounds w p (call.Dup2 fd to)) (opened w p fd) (dup2 p to) (sound_refused bounds w p (call.Dup2 fd to) refl) (λ o is free. sound_dup2 bounds w p fd to o (opened_stands w p fd o is) free)
-calls_are_sound bounds w p call.Pipe = page_has (Answers bounds w p call.Pipe) (pipe w p) (sound_refused bounds w p call.Pipe refl) (λ free. sound_pipe bounds w p free)
+    on_open_has (Answers bounds w p (call.Dup2 fd to)) (opened w p fd) (dup2 p to) (sound_refused bounds w p (call.Dup2 fd to) refl)
+    (λ o is free. sound_dup2 bounds w p fd to o (opened_stands w p fd o is) free)
+calls_are_sound bounds w p call.Pipe = page_has (Answers bounds w p call.Pipe) (pipe w p) (sound_refused bounds w p call.Pipe refl)
+    (λ free. sound_pipe bounds w p free)
 calls_are_sound bounds w p (call.Mkfifo name) =
-    page_has (Answers bounds w p (call.Mkfifo name)) (mkfifo w name) (sound_refused bounds w p (call.Mkfifo name) refl) (λ free. sound_mkfifo bounds w p name free)
+    page_has (Answers bounds w p (call.Mkfifo name)) (mkfifo w name) (sound_refused bounds w p (call.Mkfifo name) refl)
+    (λ free. sound_mkfifo bounds w p name free)
 calls_are_sound bounds w p (call.Link old new) =
-    page_has (Answers bounds w p (call.Link old new)) (link w old new) (sound_refused bounds w p (call.Link old new) refl) (λ free. sound_link bounds w p old new (file_of old w.names) refl free)
+    page_has (Answers bounds w p (call.Link old new)) (link w old new) (sound_refused bounds w p (call.Link old new) refl)
+    (λ free. sound_link bounds w p old new (file_of old w.names) refl free)
 calls_are_sound bounds w p (call.Unlink name) =
-    page_has (Answers bounds w p (call.Unlink name)) (unlink w name) (sound_refused bounds w p (call.Unlink name) refl) (λ free. sound_unlink bounds w p name free)
+    page_has (Answers bounds w p (call.Unlink name)) (unlink w name) (sound_refused bounds w p (call.Unlink name) refl)
+    (λ free. sound_unlink bounds w p name free)
 calls_are_sound bounds w p (call.Fstat fd) =
     on_open_has (Answers bounds w p (call.Fstat fd)) (opened w p fd) (fstat w) (sound_refused bounds w p (call.Fstat fd) refl)
     (λ o is _. sound_tells bounds w p (call.Fstat fd) (StatReply (stat_of w o.description.target)) refl refl (omega arith) (omega arith))
 calls_are_sound bounds w p call.Fork =
-    sound_adds bounds w p (act.Call call.Fork) (copied_table (slot w.processes p)) false (record { told = λ _. refl; refused = λ _. refl; planned = refl; ended = refl; closed = refl; few = λ _. omega arith })
+    sound_adds bounds w p (act.Call call.Fork) (copied_table (slot w.processes p)) false
+    (record { told = λ _. refl; refused = λ _. refl; planned = refl; ended = refl; closed = refl; few = λ _. omega arith })
     (λ whole. copied_can w (slot w.processes p) (whole.processes p) (whole.tables p))
 calls_are_sound bounds w p (call.Getfl fd) =
     on_open_has (Answers bounds w p (call.Getfl fd)) (opened w p fd) getfl (sound_refused bounds w p (call.Getfl fd) refl)
@@ -119,7 +135,8 @@ calls_are_sound bounds w p (call.Rename old new) =
     (λ free. sound_rename bounds w p old new (file_of old w.names) refl free)
 
 -- what is of one process alone
-alone_sound : (bounds : Bounds) (w : World) (actor : ℕ) (a : Act) (edit : ProcessEdit) → IsTold w a (Replied Done) edit → took w (record { actor = actor; act = a; outcome = Replied Done }) ≤ length (data_of w actor a) →
+alone_sound : (bounds : Bounds) (w : World) (actor : ℕ) (a : Act) (edit : ProcessEdit) → IsTold w a (Replied Done) edit →
+    took w (record { actor = actor; act = a; outcome = Replied Done }) ≤ length (data_of w actor a) →
     ProcessProper w edit → (IsWhole w → ProcessFits w edit) → Sound bounds w actor a (acts Done edit)
 alone_sound bounds w actor a edit told few proper fits = record {
   refusal = λ _ _ h. cc;
@@ -152,8 +169,10 @@ sound_attach bounds w actor = page_has (Sound bounds w actor act.Attach) (attach
       within_files = tt;
       within_table = λ _ _. tt;
     })
-    (λ free. alone_sound bounds w actor act.Attach (on_process.Attach actor) (record { added = refl; planned = refl; ended = refl; closed = refl; there = λ p h. cc }) (omega arith) tt
-    (λ _. there_if (slot w.processes actor) (not_false (awaits (slot w.processes actor)) (unmet (attach w actor).faults free (not (awaits (slot w.processes actor))) (search rules)))))
+    (λ free. alone_sound bounds w actor act.Attach (on_process.Attach actor)
+    (record { added = refl; planned = refl; ended = refl; closed = refl; there = λ p h. cc }) (omega arith) tt
+    (λ _. there_if (slot w.processes actor) (not_false (awaits (slot w.processes actor))
+    (unmet (attach w actor).faults free (not (awaits (slot w.processes actor))) (search rules)))))
   where
     there_if : (x : Option Process) → awaits x ≡ true → is_some x ≡ true
     there_if None h = cc
@@ -161,10 +180,12 @@ sound_attach bounds w actor = page_has (Sound bounds w actor act.Attach) (attach
 
 sound_exit : (bounds : Bounds) (w : World) (actor : ℕ) → IsThere w.processes actor → Sound bounds w actor act.Exit (exit actor)
 sound_exit bounds w actor there = alone_sound bounds w actor act.Exit (on_process.Exit actor)
-    (record { added = refl; planned = refl; ended = refl; closed = refl; there = λ p h. let same : actor ≡ p = cc in subst (IsThere w.processes) same there }) (omega arith) tt (λ _. there)
+    (record { added = refl; planned = refl; ended = refl; closed = refl; there = λ p h. let same : actor ≡ p = cc in subst (IsThere w.processes) same there })
+    (omega arith) tt (λ _. there)
 
 sound_close_run : (bounds : Bounds) (w : World) (actor : ℕ) → Sound bounds w actor act.CloseRun close_run
-sound_close_run bounds w actor = alone_sound bounds w actor act.CloseRun on_process.Close (record { added = refl; planned = refl; ended = refl; closed = refl; there = λ p h. cc }) (omega arith) tt (λ _. tt)
+sound_close_run bounds w actor = alone_sound bounds w actor act.CloseRun on_process.Close
+    (record { added = refl; planned = refl; ended = refl; closed = refl; there = λ p h. cc }) (omega arith) tt (λ _. tt)
 
 pub where_may : (Has : Decided → Type 0) (b : Bool) (x d : Decided) → (b ≡ true → Has x) → cond b (Some x) None ≡ Some d → Has d
 where_may Has true x d has h = let is : x ≡ d = cc in subst Has is (has refl)
@@ -173,10 +194,21 @@ where_may Has false x d has h = cc
 pub acts_are_sound : ActsAreSound
 acts_are_sound bounds w actor act.Join d h =
     where_may (Sound bounds w actor act.Join) (eqb actor (length w.processes)) (decided_by (join w)) d
-    (λ _. sound_adds bounds w actor act.Join free_table true (record { told = λ _. refl; refused = λ _. refl; planned = refl; ended = refl; closed = refl; few = λ _. omega arith }) (λ _. free_can w)) h
-acts_are_sound bounds w actor act.Attach d h = where_may (Sound bounds w actor act.Attach) true (decided_by (attach w actor)) d (λ _. sound_attach bounds w actor) h
-acts_are_sound bounds w actor (act.Call c) d h = where_may (Answers bounds w actor c) (can_call (slot w.processes actor)) (decided bounds w actor c) d (λ _. calls_are_sound bounds w actor c) h
+    (λ _. sound_adds bounds w actor act.Join free_table true (record {
+      told = λ _. refl;
+      refused = λ _. refl;
+      planned = refl;
+      ended = refl;
+      closed = refl;
+      few =
+          λ _. omega arith;
+    }) (λ _. free_can w)) h
+acts_are_sound bounds w actor act.Attach d h = where_may (Sound bounds w actor act.Attach) true (decided_by (attach w actor)) d
+    (λ _. sound_attach bounds w actor) h
+acts_are_sound bounds w actor (act.Call c) d h = where_may (Answers bounds w actor c) (can_call (slot w.processes actor)) (decided bounds w actor c) d
+    (λ _. calls_are_sound bounds w actor c) h
 acts_are_sound bounds w actor act.Resume d h = sound_resume bounds w actor d h
-acts_are_sound bounds w actor act.Exit d h = where_may (Sound bounds w actor act.Exit) (is_some (slot w.processes actor)) (exit actor) d (λ there. sound_exit bounds w actor there) h
+acts_are_sound bounds w actor act.Exit d h = where_may (Sound bounds w actor act.Exit) (is_some (slot w.processes actor)) (exit actor) d
+    (λ there. sound_exit bounds w actor there) h
 acts_are_sound bounds w actor act.CloseRun d h =
     where_may (Sound bounds w actor act.CloseRun) (eqb actor HOUSE && not w.closed) close_run d (λ _. sound_close_run bounds w actor) h

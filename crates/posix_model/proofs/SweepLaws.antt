@@ -38,13 +38,15 @@ mapped_twice : {T : Type 0} (f g : Option T → Option T) → g None ≡ None �
 mapped_twice f g none same p q narrows m [] = refl
 mapped_twice f g none same p q narrows m (x ∷ xs) =
     let tail = mapped_twice f g none same p q narrows (suc m) xs in
-    elim (p m) as (λ b. p m ≡ b → cond (q m) (g (cond b (f x) None)) None ∷ kept_from q (suc m) (map g (kept_from p (suc m) (map f xs))) ≡ cond (q m) (g x) None ∷ kept_from q (suc m) (map g xs)) [
+    elim (p m) as (λ b. p m ≡ b → cond (q m) (g (cond b (f x) None)) None ∷ kept_from q (suc m) (map g (kept_from p (suc m) (map f xs))) ≡ cond (q m)
+    (g x) None ∷ kept_from q (suc m) (map g xs)) [
       | true ↦ λ _. rw (same x, tail) refl
       | false ↦ λ fails. rw (fails_too (p m) (q m) (narrows m) fails, tail) refl
     ] refl
 
 -- a pipe that is gone is forgotten, sooner or later
-forgets_later : (ds es : List (Option Description)) → Narrows (is_open ds) (is_open es) → (f : Option File) → without_gone_pipe es (without_gone_pipe ds f) ≡ without_gone_pipe es f
+forgets_later : (ds es : List (Option Description)) → Narrows (is_open ds) (is_open es) → (f : Option File) → without_gone_pipe es (without_gone_pipe ds f)
+    ≡ without_gone_pipe es f
 forgets_later ds es narrows None = refl
 forgets_later ds es narrows (Some (file.Regular bytes)) = refl
 forgets_later ds es narrows (Some (file.Fifo fifo)) = ap (λ pipe. Some (file.Fifo (record fifo { pipe = pipe }))) (later fifo.pipe)
@@ -61,7 +63,8 @@ abbrev pub one : Bool → ℕ
 one b = cond b 1 0
 
 -- a count falls where places are emptied
-count_kept : {T : Type 0} (t : Option T → Bool) → t None ≡ false → (keeps : ℕ → Bool) (m : ℕ) (xs : List (Option T)) → count_by t (kept_from keeps m xs) ≤ count_by t xs
+count_kept : {T : Type 0} (t : Option T → Bool) → t None ≡ false → (keeps : ℕ → Bool) (m : ℕ) (xs : List (Option T)) →
+    count_by t (kept_from keeps m xs) ≤ count_by t xs
 count_kept t none keeps m [] = omega arith
 count_kept t none keeps m (x ∷ xs) =
     let tail = count_kept t none keeps (suc m) xs in
@@ -82,12 +85,15 @@ sweep_first w ps falls =
     let es = kept (is_referred ps) ds in
     let referred : Narrows (is_referred w.processes) (is_referred ps) = λ n. above (refs ps n) (refs w.processes n) (falls n) in
     let fewer = λ (t : Option Description → Bool) (none : t None ≡ false). count_kept t none (is_referred ps) 0 ds in
-    let opened : Narrows (is_open ds) (is_open es) = λ n. above (readers es n + writers es n) (readers ds n + writers ds n) (λ more. omega (arith, more, fewer (reads n) refl, fewer (writes n) refl)) in
-    let wanted : Narrows (is_wanted w.names ds) (is_wanted w.names es) = λ n. above (links w.names n + holders es n) (links w.names n + holders ds n) (λ more. omega (arith, more, fewer (holds n) refl)) in
+    let opened : Narrows (is_open ds) (is_open es) = λ n. above (readers es n + writers es n) (readers ds n + writers ds n)
+    (λ more. omega (arith, more, fewer (reads n) refl, fewer (writes n) refl)) in
+    let wanted : Narrows (is_wanted w.names ds) (is_wanted w.names es) = λ n. above (links w.names n + holders es n) (links w.names n + holders ds n)
+    (λ more. omega (arith, more, fewer (holds n) refl)) in
     rw (
       ← kept_twice (is_referred w.processes) (is_referred ps) referred 0 w.descriptions,
       kept_twice (is_open ds) (is_open es) opened 0 w.pipes,
-      mapped_twice (without_gone_pipe ds) (without_gone_pipe es) refl (forgets_later ds es opened) (is_wanted w.names ds) (is_wanted w.names es) wanted 0 w.files,
+      mapped_twice (without_gone_pipe ds) (without_gone_pipe es) refl (forgets_later ds es opened) (is_wanted w.names ds)
+          (is_wanted w.names es) wanted 0 w.files,
     ) refl
 
 pub sweep_settles : SweepSettles
@@ -98,7 +104,8 @@ pub step_parts : (Has : Stepped → Type 0) (bounds : Bounds) (w : World) (actor
     ((d : Decided) → comes_to bounds w actor act ≡ Some d → Has (stepped w (given act) d)) → step bounds w actor act ≡ Some s → Has s
 step_parts Has bounds w actor act s all h = by_cases (comes_to bounds w actor act) all h
   where
-    by_cases : (found : Option Decided) → ((d : Decided) → found ≡ Some d → Has (stepped w (given act) d)) → option_map (stepped w (given act)) found ≡ Some s → Has s
+    by_cases : (found : Option Decided) → ((d : Decided) → found ≡ Some d → Has (stepped w (given act) d)) → option_map (stepped w (given act)) found ≡ Some s →
+        Has s
     by_cases None all h = cc
     by_cases (Some d) all h = let is : stepped w (given act) d ≡ s = cc in subst Has is (all d refl)
 
@@ -175,5 +182,6 @@ sweep_leaves_there w =
       pipes = λ n. ap is_some (left.pipes n) ∙ kept_there (slot w.pipes n) (is_open ds n);
       files = λ n.
           ap is_some (left.files n) ∙
-          (kept_there (without_gone_pipe ds (slot w.files n)) (is_wanted w.names ds n) ∙ ap (λ b. b && is_wanted w.names ds n) (still_there ds (slot w.files n)));
+          (kept_there (without_gone_pipe ds (slot w.files n)) (is_wanted w.names ds n) ∙
+          ap (λ b. b && is_wanted w.names ds n) (still_there ds (slot w.files n)));
     }

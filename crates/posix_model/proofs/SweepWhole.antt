@@ -74,7 +74,8 @@ same_number : (n : ℕ) → eqb n n ≡ true
 same_number n = grind (arith, nat_tests)
 
 -- a description that stands and passes is counted
-description_counted : (p : Option Description → Bool) (ds : List (Option Description)) (n : ℕ) (d : Description) → slot ds n ≡ Some d → p (Some d) ≡ true → 0 < count_by p ds
+description_counted : (p : Option Description → Bool) (ds : List (Option Description)) (n : ℕ) (d : Description) → slot ds n ≡ Some d → p (Some d) ≡ true →
+    0 < count_by p ds
 description_counted p ds n d h pass = counted p ds n None (there_below ds n (stands_there ds n d h)) (ap p h ∙ pass)
 
 -- an end of a pipe reads or writes
@@ -92,7 +93,8 @@ end_counted ds n d pipe h is = by d.mode refl
         let pass : reads pipe (Some d) ≡ true = rw (is, e) refl in
         either_above (readers ds pipe) (writers ds pipe) (description_counted (reads pipe) ds n d h pass)
 
-held_wanted : (names : Entries) (ds : List (Option Description)) (n : ℕ) (d : Description) (f : ℕ) → slot ds n ≡ Some d → is_file f d.target ≡ true → is_wanted names ds f ≡ true
+held_wanted : (names : Entries) (ds : List (Option Description)) (n : ℕ) (d : Description) (f : ℕ) → slot ds n ≡ Some d → is_file f d.target ≡ true →
+    is_wanted names ds f ≡ true
 held_wanted names ds n d f h is = or_above (links names f) (holders ds f) (description_counted (holds f) ds n d h is)
 
 -- what is there and kept is there
@@ -108,7 +110,8 @@ wanted_kind w p f same wanted =
     ap p (kept_as_is (is_wanted w.names ds) 0 (map (without_gone_pipe ds) w.files) f (ap (is_wanted w.names ds) first ∙ wanted)) ∙
     (ap p (slot_mapped (without_gone_pipe ds) refl w.files f) ∙ kind_stays p ds same (slot w.files f))
 
-target_kept : (w : World) (n : ℕ) (d : Description) (t : Target) → slot (sweep w).descriptions n ≡ Some d → d.target ≡ t → TargetIsThere w.files w.pipes t → TargetIsThere (sweep w).files (sweep w).pipes t
+target_kept : (w : World) (n : ℕ) (d : Description) (t : Target) → slot (sweep w).descriptions n ≡ Some d → d.target ≡ t → TargetIsThere w.files w.pipes t →
+    TargetIsThere (sweep w).files (sweep w).pipes t
 target_kept w n d (target.Regular f) h e there =
     let ds = (sweep w).descriptions in
     let is : is_file f d.target ≡ true = ap (is_file f) e ∙ same_number f in
@@ -116,13 +119,15 @@ target_kept w n d (target.Regular f) h e there =
 target_kept w n d (target.Pipe pipe) h e there =
     let ds = (sweep w).descriptions in
     let is : is_pipe pipe d.target ≡ true = ap (is_pipe pipe) e ∙ same_number pipe in
-    stays (is_some (slot (sweep w).pipes pipe)) (is_some (slot w.pipes pipe)) (is_open ds pipe) ((sweep_leaves_there w).pipes pipe) there (end_counted ds n d pipe h is)
+    stays (is_some (slot (sweep w).pipes pipe)) (is_some (slot w.pipes pipe)) (is_open ds pipe) ((sweep_leaves_there w).pipes pipe) there
+    (end_counted ds n d pipe h is)
 target_kept w n d (target.Fifo f pipe) h e there =
     let ds = (sweep w).descriptions in
     let file_is : is_file f d.target ≡ true = ap (is_file f) e ∙ same_number f in
     let pipe_is : is_pipe pipe d.target ≡ true = ap (is_pipe pipe) e ∙ same_number pipe in (
       wanted_kind w is_fifo f (λ _ _. refl) (held_wanted w.names ds n d f h file_is) ∙ there.0,
-      stays (is_some (slot (sweep w).pipes pipe)) (is_some (slot w.pipes pipe)) (is_open ds pipe) ((sweep_leaves_there w).pipes pipe) there.1 (end_counted ds n d pipe h pipe_is),
+      stays (is_some (slot (sweep w).pipes pipe)) (is_some (slot w.pipes pipe)) (is_open ds pipe) ((sweep_leaves_there w).pipes pipe) there.1
+          (end_counted ds n d pipe h pipe_is),
     )
 
 -- a swept FIFO keeps a pipe of which an end is open
@@ -132,7 +137,8 @@ fifo_keeps ds (Some (file.Regular bytes)) p open_is h = h
 fifo_keeps ds (Some (file.Fifo fifo)) p open_is h = ap (open_pipe ds) h ∙ ap (λ b. cond b (Some p) None) open_is
 
 -- so each end that is left is on its pipe
-on_kept : (w : World) (n : ℕ) (d : Description) (t : Target) → slot (sweep w).descriptions n ≡ Some d → d.target ≡ t → IsOnItsPipe w.files t → IsOnItsPipe (sweep w).files t
+on_kept : (w : World) (n : ℕ) (d : Description) (t : Target) → slot (sweep w).descriptions n ≡ Some d → d.target ≡ t → IsOnItsPipe w.files t →
+    IsOnItsPipe (sweep w).files t
 on_kept w n d (target.Regular f) h e on = tt
 on_kept w n d (target.Pipe pipe) h e on = tt
 on_kept w n d (target.Fifo f pipe) h e on =
@@ -152,7 +158,8 @@ open_stays ds (Some p) pipe h = at (is_open ds p) refl h
     at true e k = let same : p ≡ pipe = cc in (ap (is_open ds) (sym same) ∙ e, k)
     at false e k = cc
 
-fifo_kept : (w : World) (old : Option File) (x : File) → without_gone_pipe (sweep w).descriptions old ≡ Some x → ((z : File) → old ≡ Some z → PipeIsThere w.pipes z) → PipeIsThere (sweep w).pipes x
+fifo_kept : (w : World) (old : Option File) (x : File) → without_gone_pipe (sweep w).descriptions old ≡ Some x →
+    ((z : File) → old ≡ Some z → PipeIsThere w.pipes z) → PipeIsThere (sweep w).pipes x
 fifo_kept w None x h all = cc
 fifo_kept w (Some (file.Regular bytes)) x h all = let same : file.Regular bytes ≡ x = cc in subst (PipeIsThere (sweep w).pipes) same tt
 fifo_kept w (Some (file.Fifo fifo)) x h all =
@@ -160,17 +167,21 @@ fifo_kept w (Some (file.Fifo fifo)) x h all =
     let same : file.Fifo (record fifo { pipe = open_pipe ds fifo.pipe }) ≡ x = cc in
     subst (PipeIsThere (sweep w).pipes) same (λ pipe k.
     let was = open_stays ds fifo.pipe pipe k in
-    stays (is_some (slot (sweep w).pipes pipe)) (is_some (slot w.pipes pipe)) (is_open ds pipe) ((sweep_leaves_there w).pipes pipe) (all (file.Fifo fifo) refl pipe was.1) was.0)
+    stays (is_some (slot (sweep w).pipes pipe)) (is_some (slot w.pipes pipe)) (is_open ds pipe) ((sweep_leaves_there w).pipes pipe)
+    (all (file.Fifo fifo) refl pipe was.1) was.0)
 
 -- a descriptor is counted among all of them
-pub descriptor_counted : (ps : List (Option Process)) (p : ℕ) (process : Process) (fd n : ℕ) → slot ps p ≡ Some process → slot process.table fd ≡ Some n → is_referred ps n ≡ true
+pub descriptor_counted : (ps : List (Option Process)) (p : ℕ) (process : Process) (fd n : ℕ) → slot ps p ≡ Some process → slot process.table fd ≡ Some n →
+    is_referred ps n ≡ true
 descriptor_counted ps p process fd n h k =
-    let mine : 0 < count_by (refers n) process.table = counted (refers n) process.table fd None (there_below process.table fd (stands_there process.table fd n k)) (ap (refers n) k ∙ same_number n) in
+    let mine : 0 < count_by (refers n) process.table = counted (refers n) process.table fd None
+    (there_below process.table fd (stands_there process.table fd n k)) (ap (refers n) k ∙ same_number n) in
     let least = rw h at (get_or-le-sum_by (refs_of n) ps p None (there_below ps p (stands_there ps p process h))) in
     above (refs ps n) (omega arith)
 
 -- a swept FIFO had its pipe before
-pipe_stood : (w : World) (old : Option File) (x : Fifo) (p : ℕ) → without_gone_pipe (sweep w).descriptions old ≡ Some (file.Fifo x) → x.pipe ≡ Some p → (y : Fifo) × (old ≡ Some (file.Fifo y)) × (y.pipe ≡ Some p)
+pipe_stood : (w : World) (old : Option File) (x : Fifo) (p : ℕ) → without_gone_pipe (sweep w).descriptions old ≡ Some (file.Fifo x) → x.pipe ≡ Some p →
+    (y : Fifo) × (old ≡ Some (file.Fifo y)) × (y.pipe ≡ Some p)
 pipe_stood w None x p h k = cc
 pipe_stood w (Some (file.Regular bytes)) x p h k = cc
 pipe_stood w (Some (file.Fifo y)) x p h k =
@@ -190,12 +201,14 @@ sweep_whole w whole =
       names = λ k d below.
           let f = (get_or w.names k d).1 in
           let linked : 0 < links w.names f = counted (λ entry. eqb entry.1 f) w.names k d below (same_number f) in
-          stays (is_some (slot (sweep w).files f)) (is_some (slot w.files f)) (is_wanted w.names ds f) ((sweep_leaves_there w).files f) (whole.names k d below) (either_above (links w.names f) (holders ds f) linked);
+          stays (is_some (slot (sweep w).files f)) (is_some (slot w.files f)) (is_wanted w.names ds f) ((sweep_leaves_there w).files f) (whole.names k d below)
+          (either_above (links w.names f) (holders ds f) linked);
       descriptions = λ n d h. target_kept w n d d.target h refl (whole.descriptions n d (kept_stood (is_referred w.processes) 0 w.descriptions n d h));
       fifos = λ n x h.
           fifo_kept w (slot w.files n) x (file_stood w n x h) (whole.fifos n);
       processes = λ p process h fd n k.
-          stays (is_some (slot ds n)) (is_some (slot w.descriptions n)) (is_referred w.processes n) ((sweep_leaves_there w).descriptions n) (whole.processes p process h fd n k) (descriptor_counted w.processes p process fd n h k);
+          stays (is_some (slot ds n)) (is_some (slot w.descriptions n)) (is_referred w.processes n) ((sweep_leaves_there w).descriptions n)
+          (whole.processes p process h fd n k) (descriptor_counted w.processes p process fd n h k);
       ends = λ n d h. its_from w.files (sweep w).files d.target (had_pipe w) (whole.ends n d (kept_stood (is_referred w.processes) 0 w.descriptions n d h));
       apart = apart_from w.files (sweep w).files (had_pipe w) whole.apart;
       pipes = λ n d h. on_kept w n d d.target h refl (whole.pipes n d (kept_stood (is_referred w.processes) 0 w.descriptions n d h));

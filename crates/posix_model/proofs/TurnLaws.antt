@@ -56,13 +56,15 @@ ruleset first_rules = (first_tells, first_does, first_acts, first_if, first_page
 first_tried : (p : ℕ) (c : Call) (o : OpenDescriptor) (t : Try) → First (first_try p c o t)
 first_tried p c o (Ends reply edit) = first_does reply edit _
 first_tried p c o (Waits moved edit) =
-    first_if o.description.nonblock _ _ (first_if (eqb moved 0) _ _ (first_refused _) (first_does (Number moved) edit _)) (first_parks p (waiting c o.fd moved 0) (does (Number moved) edit on_table.Nothing))
+    first_if o.description.nonblock _ _ (first_if (eqb moved 0) _ _ (first_refused _) (first_does (Number moved) edit _))
+    (first_parks p (waiting c o.fd moved 0) (does (Number moved) edit on_table.Nothing))
 
 first_read : (w : World) (p : ℕ) (c : Call) (count : ℕ) (o : OpenDescriptor) (x : Option ℕ) → First (read_from w p c count o x)
 first_read w p c count o None = search (rules, first_rules)
 first_read w p c count o (Some pipe) = first_if (eqb count 0) _ _ (first_tells (Data [])) (first_tried p c o (read_try w pipe count))
 
-first_written : (bounds : Bounds) (w : World) (p : ℕ) (c : Call) (start : ℕ) (new : List ℕ) (o : OpenDescriptor) (x : Option ℕ) → First (write_to bounds w p c start new o x)
+first_written : (bounds : Bounds) (w : World) (p : ℕ) (c : Call) (start : ℕ) (new : List ℕ) (o : OpenDescriptor) (x : Option ℕ) →
+    First (write_to bounds w p c start new o x)
 first_written bounds w p c start new o None = search (rules, first_rules)
 first_written bounds w p c start new o (Some pipe) = first_if (eqb (length new) 0) _ _ (first_tells (Number 0)) (first_tried p c o _)
 
@@ -75,14 +77,16 @@ first_opened w p name flags (Some number) = at (fifo_at (slot w.files number))
     at (Some fifo) =
         let opens_it = opens_end w p flags number fifo in
         let waits = waiting (call.Open name flags) (free_descriptor w p) 0 (opposite_openings (mode_of flags) (Some fifo)) in
-        first_if (has flags flag.nonblocking || is_met w (mode_of flags) fifo) opens_it (parks p waits opens_it) (record { is = tt }) (first_parks p waits opens_it)
+        first_if (has flags flag.nonblocking || is_met w (mode_of flags) fifo) opens_it (parks p waits opens_it) (record { is = tt })
+        (first_parks p waits opens_it)
 
 first_call : (bounds : Bounds) (w : World) (p : ℕ) (c : Call) → First (decided bounds w p c)
 first_call bounds w p (call.Open name flags) = first_page (open_file w p name flags) (first_opened w p name flags (file_of name w.names))
 first_call bounds w p (call.Read fd count) =
     first_on_open (opened w p fd) (read w p (call.Read fd count) count) (λ o. first_read w p (call.Read fd count) count o (pipe_at o.description.target))
 first_call bounds w p (call.Write fd new) =
-    first_on_open (opened w p fd) (write bounds w p (call.Write fd new) new) (λ o. first_written bounds w p (call.Write fd new) _ new o (pipe_at o.description.target))
+    first_on_open (opened w p fd) (write bounds w p (call.Write fd new) new)
+    (λ o. first_written bounds w p (call.Write fd new) _ new o (pipe_at o.description.target))
 first_call bounds w p other = search (rules, first_rules)
 
 -- what is decided is recorded
@@ -92,7 +96,8 @@ given s = Some s
 same : (s t : Stepped) → given s ≡ given t → s ≡ t
 same s t e = cc
 
-call_recorded : (b : Bool) (w : World) (bytes : List ℕ) (d : Decided) (s : Stepped) → First d → option_map (stepped w bytes) (cond b (Some d) None) ≡ Some s → EndsOrWaits s.outcome
+call_recorded : (b : Bool) (w : World) (bytes : List ℕ) (d : Decided) (s : Stepped) → First d → option_map (stepped w bytes) (cond b (Some d) None) ≡ Some s →
+    EndsOrWaits s.outcome
 call_recorded true w bytes d s h e = subst (λ (t : Stepped). EndsOrWaits t.outcome) (same (stepped w bytes d) s e) h.is
 call_recorded false w bytes d s h e = absurd cc
 

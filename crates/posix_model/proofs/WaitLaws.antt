@@ -22,7 +22,8 @@ use Rattle.posix_model.specs.declared.change.Try.TheVariants.{Ends, Waits}
 use Rattle.posix_model.proofs.PageLaws.{page_has, on_open_has, if_has}
 
 read_ready_at : (pipe count : ℕ) (bytes : List ℕ) (a b : Bool) →
-    (a || not b) ≡ not (is_stuck 0 (cond a (Ends (Data (take count bytes)) (on_files.Take pipe count)) (cond b (Waits 0 on_files.Nothing) (Ends (Data []) on_files.Nothing))))
+    (a || not b) ≡ not (is_stuck 0 (cond a (Ends (Data (take count bytes)) (on_files.Take pipe count))
+    (cond b (Waits 0 on_files.Nothing) (Ends (Data []) on_files.Nothing))))
 read_ready_at pipe count bytes true b = refl
 read_ready_at pipe count bytes false true = refl
 read_ready_at pipe count bytes false false = refl
@@ -30,8 +31,10 @@ read_ready_at pipe count bytes false false = refl
 pub ready_reads : ReadyReads
 ready_reads w pipe count = read_ready_at pipe count (held_bytes w pipe) (not (eqb (held_in w pipe) 0)) (has_writer w pipe)
 
-write_ready_at : (s : DataSource) (pipe moved len free : ℕ) (r a b : Bool) → leb (len - moved) free ≡ a → leb len PIPE_BUF ≡ b → moved < len → (len ≤ PIPE_BUF → moved ≡ 0) →
-    (leb (cond b len 1) free || not r) ≡ not (is_stuck moved (cond (not r) (Ends (broken moved) on_files.Nothing) (cond a (Ends (Number (moved + (len - moved))) (on_files.Put pipe s (len - moved)))
+write_ready_at : (s : DataSource) (pipe moved len free : ℕ) (r a b : Bool) → leb (len - moved) free ≡ a → leb len PIPE_BUF ≡ b → moved < len →
+    (len ≤ PIPE_BUF → moved ≡ 0) →
+    (leb (cond b len 1) free || not r) ≡ not (is_stuck moved
+    (cond (not r) (Ends (broken moved) on_files.Nothing) (cond a (Ends (Number (moved + (len - moved))) (on_files.Put pipe s (len - moved)))
     (cond b (Waits moved on_files.Nothing) (Waits (moved + free) (on_files.Put pipe s free))))))
 write_ready_at s pipe moved len free false a b e k owed small = elim (leb (cond b len 1) free) as (λ x. (x || true) ≡ true) [ true ↦ refl | false ↦ refl ]
 write_ready_at s pipe moved len free true true true e k owed small = grind (arith, nat_tests)
@@ -41,7 +44,8 @@ write_ready_at s pipe moved len free true false false e k owed small = grind (ar
 
 pub ready_writes : ReadyWrites
 ready_writes bounds w pipe s len moved owed small =
-    write_ready_at s pipe moved len (room_in bounds w pipe) (has_reader w pipe) (leb (len - moved) (room_in bounds w pipe)) (leb len PIPE_BUF) refl refl owed small
+    write_ready_at s pipe moved len (room_in bounds w pipe) (has_reader w pipe) (leb (len - moved) (room_in bounds w pipe))
+    (leb len PIPE_BUF) refl refl owed small
 
 -- what is decided ends with a reply
 record EndsInReply (d : Decided) : Type 0 where
@@ -77,15 +81,18 @@ first_ends : (p : ℕ) (c : Call) (o : OpenDescriptor) (t : Try) → o.descripti
 first_ends p c o (Ends reply edit) h = ends_does reply edit _
 first_ends p c o (Waits moved edit) h = rw h (ends_if (eqb moved 0) _ _ (ends_refused _) (ends_does (Number moved) edit _))
 
-read_ends : (w : World) (p : ℕ) (c : Call) (count : ℕ) (o : OpenDescriptor) (x : Option ℕ) → o.description.nonblock ≡ true → EndsInReply (read_from w p c count o x)
+read_ends : (w : World) (p : ℕ) (c : Call) (count : ℕ) (o : OpenDescriptor) (x : Option ℕ) → o.description.nonblock ≡ true →
+    EndsInReply (read_from w p c count o x)
 read_ends w p c count o None h = search (rules, end_rules)
 read_ends w p c count o (Some pipe) h = ends_if (eqb count 0) _ _ (ends_tells (Data [])) (first_ends p c o (read_try w pipe count) h)
 
-write_ends : (bounds : Bounds) (w : World) (p : ℕ) (c : Call) (start : ℕ) (new : List ℕ) (o : OpenDescriptor) (x : Option ℕ) → o.description.nonblock ≡ true → EndsInReply (write_to bounds w p c start new o x)
+write_ends : (bounds : Bounds) (w : World) (p : ℕ) (c : Call) (start : ℕ) (new : List ℕ) (o : OpenDescriptor) (x : Option ℕ) → o.description.nonblock ≡ true →
+    EndsInReply (write_to bounds w p c start new o x)
 write_ends bounds w p c start new o None h = search (rules, end_rules)
 write_ends bounds w p c start new o (Some pipe) h = ends_if (eqb (length new) 0) _ _ (ends_tells (Number 0)) (first_ends p c o _ h)
 
-open_ends : (w : World) (p : ℕ) (name : List ℕ) (flags : OpenFlags) (found : Option ℕ) → has flags flag.nonblocking ≡ true → EndsInReply (open_found w p name flags found)
+open_ends : (w : World) (p : ℕ) (name : List ℕ) (flags : OpenFlags) (found : Option ℕ) → has flags flag.nonblocking ≡ true →
+    EndsInReply (open_found w p name flags found)
 open_ends w p name flags None h = search (rules, end_rules)
 open_ends w p name flags (Some number) h = at (fifo_at (slot w.files number))
   where
@@ -102,9 +109,11 @@ ends_under (Some o) page h all = ends_page (page o) (all o h)
 nonblock_ends : (bounds : Bounds) (w : World) (p : ℕ) (c : Call) → is_nonblocking w p c ≡ true → EndsInReply (decided bounds w p c)
 nonblock_ends bounds w p (call.Open name flags) h = ends_page (open_file w p name flags) (open_ends w p name flags (file_of name w.names) h)
 nonblock_ends bounds w p (call.Read fd count) h =
-    ends_under (opened w p fd) (read w p (call.Read fd count) count) h (λ o under. read_ends w p (call.Read fd count) count o (pipe_at o.description.target) under)
+    ends_under (opened w p fd) (read w p (call.Read fd count) count) h
+    (λ o under. read_ends w p (call.Read fd count) count o (pipe_at o.description.target) under)
 nonblock_ends bounds w p (call.Write fd new) h =
-    ends_under (opened w p fd) (write bounds w p (call.Write fd new) new) h (λ o under. write_ends bounds w p (call.Write fd new) _ new o (pipe_at o.description.target) under)
+    ends_under (opened w p fd) (write bounds w p (call.Write fd new) new) h (λ o under. write_ends bounds w p (call.Write fd new) _ new o
+    (pipe_at o.description.target) under)
 nonblock_ends bounds w p other h = search (rules, end_rules)
 
 pub nonblock_never_waits : NonblockNeverWaits

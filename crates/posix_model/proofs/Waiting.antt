@@ -97,7 +97,8 @@ wells_more ds es ps keeps each n x h parked is =
     record { attached = old.attached; moved = old.moved; may = led_keeps ds es keeps (slot x.table parked.fd) parked.call old.may }
 
 -- a process is edited
-edited_well : (ds : List (Option Description)) (ps : List (Option Process)) (p : ℕ) (f : Process → Process) → EachThere (Well ds) ps → ((x : Process) → slot ps p ≡ Some x → Well ds (f x)) → EachThere (Well ds) (edited p f ps)
+edited_well : (ds : List (Option Description)) (ps : List (Option Process)) (p : ℕ) (f : Process → Process) → EachThere (Well ds) ps →
+    ((x : Process) → slot ps p ≡ Some x → Well ds (f x)) → EachThere (Well ds) (edited p f ps)
 edited_well ds ps p f each new = each_set (Well ds) ps p (option_map f (slot ps p)) each (λ x h. at (slot ps p) refl x h)
   where
     at : (old : Option Process) → slot ps p ≡ old → (x : Process) → option_map f old ≡ Some x → Well ds x
@@ -148,7 +149,8 @@ idle_well : (ds : List (Option Description)) (x : Process) → x.parked ≡ None
 idle_well ds x none parked is = let bad : ◌≡◌ {A = Option Parked} None (Some parked) = sym none ∙ is in cc
 
 -- of an idle one
-entry_wells : (ds es : List (Option Description)) (ps : List (Option Process)) (q p : ℕ) (f : Process → Process) → Keeps ds es → q ≡ p → ((x : Process) → slot ps p ≡ Some x → x.parked ≡ None) →
+entry_wells : (ds es : List (Option Description)) (ps : List (Option Process)) (q p : ℕ) (f : Process → Process) → Keeps ds es → q ≡ p →
+    ((x : Process) → slot ps p ≡ Some x → x.parked ≡ None) →
     ((x : Process) → (f x).parked ≡ x.parked) → EachThere (Well ds) ps → EachThere (Well es) (edited q f ps)
 entry_wells ds es ps q p f keeps same idle stays each =
     edited_well es ps q f (wells_more ds es ps keeps each) (λ x here. idle_well es (f x) (stays x ∙ idle x (ap (slot ps) (sym same) ∙ here)))
@@ -158,15 +160,18 @@ table_wells w on_table.Nothing p of idle h = h
 table_wells w (on_table.Describe m edit) p of idle h =
     wells_more w.descriptions (edited m (described edit) w.descriptions) w.processes (keeps_edited w.descriptions m (described edit) (stays_open edit)) h
 table_wells w (on_table.Open q fd d) p of idle h =
-    entry_wells w.descriptions (w.descriptions ++ Some d ∷ []) w.processes q p (with_entry fd (Some (length w.descriptions))) (keeps_push w.descriptions d) of (λ x here. (idle x here).1) (λ x. refl) h
+    entry_wells w.descriptions (w.descriptions ++ Some d ∷ []) w.processes q p (with_entry fd (Some (length w.descriptions))) (keeps_push w.descriptions d) of
+    (λ x here. (idle x here).1) (λ x. refl) h
 table_wells w (on_table.OpenPair q reading writing) p of idle h =
     let v = with_table w (on_table.OpenPair q reading writing) in
     subst (EachThere (Well v.descriptions)) (sym (edited_twice (with_entry reading _) (with_entry writing _) q w.processes))
     (entry_wells w.descriptions v.descriptions w.processes q p (λ x. with_entry writing _ (with_entry reading _ x))
     (λ n c is. keeps_push _ _ n c (keeps_push w.descriptions _ n c is)) of (λ x here. (idle x here).1) (λ x. refl) h)
 table_wells w (on_table.OpenEnd q fd f d) p of idle h =
-    entry_wells w.descriptions (w.descriptions ++ Some d ∷ []) w.processes q p (with_entry fd (Some (length w.descriptions))) (keeps_push w.descriptions d) of (λ x here. (idle x here).1) (λ x. refl) h
-table_wells w (on_table.Entry q fd entry) p of idle h = entry_wells w.descriptions w.descriptions w.processes q p (with_entry fd entry) (λ n c is. is) of (λ x here. (idle x here).1) (λ x. refl) h
+    entry_wells w.descriptions (w.descriptions ++ Some d ∷ []) w.processes q p (with_entry fd (Some (length w.descriptions))) (keeps_push w.descriptions d) of
+    (λ x here. (idle x here).1) (λ x. refl) h
+table_wells w (on_table.Entry q fd entry) p of idle h = entry_wells w.descriptions w.descriptions w.processes q p (with_entry fd entry) (λ n c is. is) of
+    (λ x here. (idle x here).1) (λ x. refl) h
 
 -- a change by which no process begins to wait, and of the descriptors of one process alone
 abbrev IsMild : ℕ → ProcessEdit → TableEdit → Type 0
@@ -223,31 +228,37 @@ mild_on_open p x page all = on_open_has (Mild p) x page (mild_refused p) (λ o _
 ruleset mild_rules = (mild_tells, mild_does, mild_adds, mild_if, mild_page, mild_on_open)
 
 -- a descriptor that is open leads to its description
-description_led : (fd n : ℕ) (there : Option Description) (o : OpenDescriptor) → opened_description fd n there ≡ Some o → (o.fd ≡ fd) × (there ≡ Some o.description)
+description_led : (fd n : ℕ) (there : Option Description) (o : OpenDescriptor) → opened_description fd n there ≡ Some o →
+    (o.fd ≡ fd) × (there ≡ Some o.description)
 description_led fd n None o h = cc
 description_led fd n (Some d) o h =
     let made : OpenDescriptor = record { fd = fd; number = n; description = d } in
     let same : made ≡ o = cc in
     (ap (λ (x : OpenDescriptor). x.fd) (sym same), ap (λ (x : OpenDescriptor). Some x.description) same)
 
-pub number_led : (w : World) (fd : ℕ) (e : Option ℕ) (o : OpenDescriptor) → opened_number w fd e ≡ Some o → (o.fd ≡ fd) × (led w.descriptions e ≡ Some o.description)
+pub number_led : (w : World) (fd : ℕ) (e : Option ℕ) (o : OpenDescriptor) → opened_number w fd e ≡ Some o →
+    (o.fd ≡ fd) × (led w.descriptions e ≡ Some o.description)
 number_led w fd None o h = cc
 number_led w fd (Some n) o h = description_led fd n (slot w.descriptions n) o h
 
 abbrev LedTo : World → ℕ → OpenDescriptor → Process → Type 0
 LedTo w fd o x = (o.fd ≡ fd) × (led w.descriptions (slot x.table fd) ≡ Some o.description)
 
-led_at : (w : World) (fd : ℕ) (there : Option Process) (o : OpenDescriptor) (x : Process) → there ≡ Some x → opened_number w fd (slot (table_of there) fd) ≡ Some o → LedTo w fd o x
+led_at : (w : World) (fd : ℕ) (there : Option Process) (o : OpenDescriptor) (x : Process) → there ≡ Some x → opened_number w fd (slot (table_of there) fd)
+    ≡ Some o → LedTo w fd o x
 led_at w fd None o x here h = cc
 led_at w fd (Some y) o x here h = let same : y ≡ x = cc in subst (LedTo w fd o) same (number_led w fd (slot y.table fd) o h)
 
-opened_led : (w : World) (p : ℕ) (fd : ℤ) (o : OpenDescriptor) (x : Process) → slot w.processes p ≡ Some x → opened w p fd ≡ Some o → led w.descriptions (slot x.table o.fd) ≡ Some o.description
+opened_led : (w : World) (p : ℕ) (fd : ℤ) (o : OpenDescriptor) (x : Process) → slot w.processes p ≡ Some x → opened w p fd ≡ Some o →
+    led w.descriptions (slot x.table o.fd) ≡ Some o.description
 opened_led w p (pos fd) o x here h = let parts = led_at w fd (slot w.processes p) o x here h in ap (λ n. led w.descriptions (slot x.table n)) parts.0 ∙ parts.1
 opened_led w p (negsuc n) o x here h = cc
 
 -- a call that begins to wait on an open descriptor
-parks_keep : (w : World) (bytes : List ℕ) (p : ℕ) (fd : ℤ) (c : Call) (o : OpenDescriptor) (moved : ℕ) (e : FileEdit) → IsIdle w p → Wells w → opened w p fd ≡ Some o →
-    may_wait c o.description.target o.description.mode ≡ true → HasLeft c moved → KeepsAll w bytes (parks p (waiting c o.fd moved 0) (does (Number moved) e on_table.Nothing))
+parks_keep : (w : World) (bytes : List ℕ) (p : ℕ) (fd : ℤ) (c : Call) (o : OpenDescriptor) (moved : ℕ) (e : FileEdit) → IsIdle w p → Wells w →
+    opened w p fd ≡ Some o →
+    may_wait c o.description.target o.description.mode ≡ true → HasLeft c moved →
+    KeepsAll w bytes (parks p (waiting c o.fd moved 0) (does (Number moved) e on_table.Nothing))
 parks_keep w bytes p fd c o moved e idle h is may left = by_files e
   where
     parked : Parked
@@ -272,10 +283,12 @@ Left c (Waits moved edit) = HasLeft c moved
 read_left : (w : World) (pipe : ℕ) (fd : ℤ) (count : ℕ) → Left (call.Read fd count) (read_try w pipe count)
 read_left w pipe fd count =
     let Has : Try → Type 0 = Left (call.Read fd count) in
-    try_has Has (not (eqb (held_in w pipe) 0)) (Ends (Data (take count (held_bytes w pipe))) (on_files.Take pipe count)) (cond (has_writer w pipe) (Waits 0 on_files.Nothing) (Ends (Data []) on_files.Nothing))
+    try_has Has (not (eqb (held_in w pipe) 0)) (Ends (Data (take count (held_bytes w pipe))) (on_files.Take pipe count))
+    (cond (has_writer w pipe) (Waits 0 on_files.Nothing) (Ends (Data []) on_files.Nothing))
     (λ _. tt) (λ _. try_has Has (has_writer w pipe) (Waits 0 on_files.Nothing) (Ends (Data []) on_files.Nothing) (λ _. refl) (λ _. tt))
 
-write_left : (bounds : Bounds) (w : World) (pipe : ℕ) (from : DataSource) (fd : ℤ) (new : List ℕ) (moved : ℕ) → HasLeft (call.Write fd new) moved → Left (call.Write fd new) (write_try bounds w pipe from (length new) moved)
+write_left : (bounds : Bounds) (w : World) (pipe : ℕ) (from : DataSource) (fd : ℤ) (new : List ℕ) (moved : ℕ) → HasLeft (call.Write fd new) moved →
+    Left (call.Write fd new) (write_try bounds w pipe from (length new) moved)
 write_left bounds w pipe from fd new moved left =
     let Has : Try → Type 0 = Left (call.Write fd new) in
     let len = length new in
@@ -287,7 +300,8 @@ write_left bounds w pipe from fd new moved left =
     try_has Has (not (has_reader w pipe)) (Ends (broken moved) on_files.Nothing) (cond (leb rest room) fits later) (λ _. tt)
     (λ _. try_has Has (leb rest room) fits later (λ _. tt)
     (λ over. try_has Has (leb len PIPE_BUF) (Waits moved on_files.Nothing) large (λ _. left)
-    (λ many. let below = not_at_most rest room over in let past = not_at_most len PIPE_BUF many in (omega (arith, below), λ few. absurd (omega (arith, few, past))))))
+    (λ many. let below = not_at_most rest room over in let past = not_at_most len PIPE_BUF many in
+    (omega (arith, below), λ few. absurd (omega (arith, few, past))))))
 
 -- the first try of a call
 first_keeps : (w : World) (bytes : List ℕ) (p : ℕ) (fd : ℤ) (c : Call) (o : OpenDescriptor) (t : Try) → IsIdle w p → Wells w → opened w p fd ≡ Some o →
@@ -295,7 +309,8 @@ first_keeps : (w : World) (bytes : List ℕ) (p : ℕ) (fd : ℤ) (c : Call) (o 
 first_keeps w bytes p fd c o (Ends reply edit) idle h is may left = mild_keeps w bytes p (does reply edit on_table.Nothing) idle h (record { change = tt })
 first_keeps w bytes p fd c o (Waits moved edit) idle h is may left =
     if_has (KeepsAll w bytes) o.description.nonblock (instead moved edit) (parks p (waiting c o.fd moved 0) (does (Number moved) edit on_table.Nothing))
-    (λ _. mild_keeps w bytes p (instead moved edit) idle h (mild_if p (eqb moved 0) (refused EAGAIN) (does (Number moved) edit on_table.Nothing) (mild_refused p EAGAIN) (record { change = tt })))
+    (λ _. mild_keeps w bytes p (instead moved edit) idle h (mild_if p (eqb moved 0) (refused EAGAIN) (does (Number moved) edit on_table.Nothing)
+    (mild_refused p EAGAIN) (record { change = tt })))
     (λ _. parks_keep w bytes p fd c o moved edit idle h is may left)
 
 -- what has a pipe is an end of it
@@ -308,7 +323,8 @@ both_true a b h k = rw (h, k) refl
 some_bytes : (n : ℕ) → eqb n 0 ≡ false → 0 < n
 some_bytes n h = grind (arith, nat_tests)
 
-read_keeps : (w : World) (p : ℕ) (fd : ℤ) (count : ℕ) (o : OpenDescriptor) → IsIdle w p → Wells w → opened w p fd ≡ Some o → first_fault (read_faults count o) ≡ None → (on : Option ℕ) →
+read_keeps : (w : World) (p : ℕ) (fd : ℤ) (count : ℕ) (o : OpenDescriptor) → IsIdle w p → Wells w → opened w p fd ≡ Some o →
+    first_fault (read_faults count o) ≡ None → (on : Option ℕ) →
     pipe_at o.description.target ≡ on → KeepsAll w [] (read_from w p (call.Read fd count) count o on)
 read_keeps w p fd count o idle h is free None on = mild_keeps w [] p (read_from w p (call.Read fd count) count o None) idle h (search (rules, mild_rules))
 read_keeps w p fd count o idle h is free (Some pipe) on =
@@ -316,22 +332,27 @@ read_keeps w p fd count o idle h is free (Some pipe) on =
     let can = not_false (can_read o.description.mode) (unmet (read_faults count o) free (not (can_read o.description.mode)) (search rules)) in
     if_has (KeepsAll w []) (eqb count 0) (tells (Data [])) (first_try p c o (read_try w pipe count))
     (λ _. mild_keeps w [] p (tells (Data [])) idle h (mild_tells p (Data [])))
-    (λ _. first_keeps w [] p fd c o (read_try w pipe count) idle h is (both_true (is_some (pipe_at o.description.target)) (can_read o.description.mode) (is_end o.description.target pipe on) can) (read_left w pipe fd count))
+    (λ _. first_keeps w [] p fd c o (read_try w pipe count) idle h is (both_true (is_some (pipe_at o.description.target)) (can_read o.description.mode)
+    (is_end o.description.target pipe on) can) (read_left w pipe fd count))
 
-write_keeps : (bounds : Bounds) (w : World) (p : ℕ) (fd : ℤ) (bytes : List ℕ) (start : ℕ) (o : OpenDescriptor) → IsIdle w p → Wells w → opened w p fd ≡ Some o → first_fault (write_faults bounds start bytes o) ≡ None → (on : Option ℕ) →
+write_keeps : (bounds : Bounds) (w : World) (p : ℕ) (fd : ℤ) (bytes : List ℕ) (start : ℕ) (o : OpenDescriptor) → IsIdle w p → Wells w → opened w p fd ≡ Some o →
+    first_fault (write_faults bounds start bytes o) ≡ None → (on : Option ℕ) →
     pipe_at o.description.target ≡ on → KeepsAll w bytes (write_to bounds w p (call.Write fd bytes) start bytes o on)
-write_keeps bounds w p fd bytes start o idle h is free None on = mild_keeps w bytes p (write_to bounds w p (call.Write fd bytes) start bytes o None) idle h (search (rules, mild_rules))
+write_keeps bounds w p fd bytes start o idle h is free None on = mild_keeps w bytes p (write_to bounds w p (call.Write fd bytes) start bytes o None) idle h
+    (search (rules, mild_rules))
 write_keeps bounds w p fd bytes start o idle h is free (Some pipe) on =
     let c = call.Write fd bytes in
     let can = not_false (can_write o.description.mode) (unmet (write_faults bounds start bytes o) free (not (can_write o.description.mode)) (search rules)) in
     let t = write_try bounds w pipe source.Act (length bytes) 0 in
     if_has (KeepsAll w bytes) (eqb (length bytes) 0) (tells (Number 0)) (first_try p c o t)
     (λ _. mild_keeps w bytes p (tells (Number 0)) idle h (mild_tells p (Number 0)))
-    (λ some. first_keeps w bytes p fd c o t idle h is (both_true (is_some (pipe_at o.description.target)) (can_write o.description.mode) (is_end o.description.target pipe on) can)
+    (λ some. first_keeps w bytes p fd c o t idle h is (both_true (is_some (pipe_at o.description.target)) (can_write o.description.mode)
+    (is_end o.description.target pipe on) can)
     (write_left bounds w pipe source.Act fd bytes 0 (some_bytes (length bytes) some, λ _. refl)))
 
 -- an open of an end of a FIFO that waits
-open_parks : (w : World) (p : ℕ) (name : List ℕ) (flags : OpenFlags) (f : ℕ) (fifo : Fifo) (openings : ℕ) (found : Option ℕ) → IsIdle w p → Wells w → CanOpenFound w p found →
+open_parks : (w : World) (p : ℕ) (name : List ℕ) (flags : OpenFlags) (f : ℕ) (fifo : Fifo) (openings : ℕ) (found : Option ℕ) → IsIdle w p → Wells w →
+    CanOpenFound w p found →
     KeepsAll w [] (parks p (waiting (call.Open name flags) (free_descriptor w p) 0 openings) (opens_end w p flags f fifo))
 open_parks w p name flags f fifo openings found idle h can =
     let fd = free_descriptor w p in
@@ -348,10 +369,12 @@ open_parks w p name flags f fifo openings found idle h can =
     let is : Some can.free.process ≡ Some x = sym can.free.process_is ∙ here in
     let one : can.free.process ≡ x = cc in
     let within : fd < length x.table = subst (λ (y : Process). fd < length y.table) one can.free.within in
-    let leads : led es (slot (set x.table fd (Some (length ds))) fd) ≡ Some d = ap (led es) (set_within x.table fd (Some (length ds)) within) ∙ slot_at_end ds (Some d) in
+    let leads : led es (slot (set x.table fd (Some (length ds))) fd) ≡ Some d = ap (led es) (set_within x.table fd (Some (length ds)) within) ∙
+    slot_at_end ds (Some d) in
     subst (IsWell es (opens (waits x))) e (record { attached = (idle x here).0; moved = refl; may = ap (lets (call.Open name flags)) leads })))
 
-open_keeps : (w : World) (p : ℕ) (name : List ℕ) (flags : OpenFlags) (found : Option ℕ) → IsIdle w p → Wells w → CanOpenFound w p found → KeepsAll w [] (open_found w p name flags found)
+open_keeps : (w : World) (p : ℕ) (name : List ℕ) (flags : OpenFlags) (found : Option ℕ) → IsIdle w p → Wells w → CanOpenFound w p found →
+    KeepsAll w [] (open_found w p name flags found)
 open_keeps w p name flags None idle h can = mild_keeps w [] p (open_found w p name flags None) idle h (search (rules, mild_rules))
 open_keeps w p name flags (Some f) idle h can = at (fifo_at (slot w.files f))
   where
@@ -360,39 +383,49 @@ open_keeps w p name flags (Some f) idle h can = at (fifo_at (slot w.files f))
     at (Some fifo) =
         let opens_it = opens_end w p flags f fifo in
         let openings = opposite_openings (mode_of flags) (Some fifo) in
-        if_has (KeepsAll w []) (has flags flag.nonblocking || is_met w (mode_of flags) fifo) opens_it (parks p (waiting (call.Open name flags) (free_descriptor w p) 0 openings) opens_it)
+        if_has (KeepsAll w []) (has flags flag.nonblocking || is_met w (mode_of flags) fifo) opens_it
+        (parks p (waiting (call.Open name flags) (free_descriptor w p) 0 openings) opens_it)
         (λ _. mild_keeps w [] p opens_it idle h (record { change = refl })) (λ _. open_parks w p name flags f fifo openings (Some f) idle h can)
 
 -- one case for each call that may wait
 calls_keep : (bounds : Bounds) (w : World) (p : ℕ) (c : Call) → IsIdle w p → Wells w → KeepsAll w (given (act.Call c)) (decided bounds w p c)
 calls_keep bounds w p (call.Open name flags) idle h =
     let found = file_of name w.names in
-    page_has (KeepsAll w []) (open_file w p name flags) (λ error. mild_keeps w [] p (refused error) idle h (mild_refused p error)) (λ free. open_keeps w p name flags found idle h (can_open w p name flags found free))
+    page_has (KeepsAll w []) (open_file w p name flags) (λ error. mild_keeps w [] p (refused error) idle h (mild_refused p error))
+    (λ free. open_keeps w p name flags found idle h (can_open w p name flags found free))
 calls_keep bounds w p (call.Read fd count) idle h =
     on_open_has (KeepsAll w []) (opened w p fd) (read w p (call.Read fd count) count) (λ error. mild_keeps w [] p (refused error) idle h (mild_refused p error))
     (λ o is free. read_keeps w p fd count o idle h is free (pipe_at o.description.target) refl)
 calls_keep bounds w p (call.Write fd bytes) idle h =
-    on_open_has (KeepsAll w bytes) (opened w p fd) (write bounds w p (call.Write fd bytes) bytes) (λ error. mild_keeps w bytes p (refused error) idle h (mild_refused p error))
-    (λ o is free. write_keeps bounds w p fd bytes (write_start o.description (length (bytes_of w (file_at o)))) o idle h is free (pipe_at o.description.target) refl)
+    on_open_has (KeepsAll w bytes) (opened w p fd) (write bounds w p (call.Write fd bytes) bytes)
+    (λ error. mild_keeps w bytes p (refused error) idle h (mild_refused p error))
+    (λ o is free. write_keeps bounds w p fd bytes (write_start o.description (length (bytes_of w (file_at o)))) o idle h is free
+    (pipe_at o.description.target) refl)
 calls_keep bounds w p other idle h = mild_keeps w (given (act.Call other)) p (decided bounds w p other) idle h (search (rules, mild_rules))
 
 -- the next try of a call that waits
-again_left : (bounds : Bounds) (w : World) (p : ℕ) (o : OpenDescriptor) (parked : Parked) (pipe : ℕ) (c : Call) (t : Try) → HasLeft c parked.moved → try_again bounds w p o parked pipe c ≡ Some t → Left c t
-again_left bounds w p o parked pipe (call.Read fd count) t left h = some_try (Left (call.Read fd count)) (read_ready w pipe) (read_try w pipe count) t (read_left w pipe fd count) h
+again_left : (bounds : Bounds) (w : World) (p : ℕ) (o : OpenDescriptor) (parked : Parked) (pipe : ℕ) (c : Call) (t : Try) → HasLeft c parked.moved →
+    try_again bounds w p o parked pipe c ≡ Some t → Left c t
+again_left bounds w p o parked pipe (call.Read fd count) t left h = some_try (Left (call.Read fd count)) (read_ready w pipe) (read_try w pipe count) t
+    (read_left w pipe fd count) h
 again_left bounds w p o parked pipe (call.Write fd new) t left h =
-    some_try (Left (call.Write fd new)) (write_ready bounds w pipe (length new)) (write_try bounds w pipe (source.Parked p) (length new) parked.moved) t (write_left bounds w pipe (source.Parked p) fd new parked.moved left) h
-again_left bounds w p o parked pipe (call.Open name flags) t left h = some_try (Left (call.Open name flags)) (open_ready w o pipe parked.openings) (Ends (Number o.fd) on_files.Nothing) t tt h
+    some_try (Left (call.Write fd new)) (write_ready bounds w pipe (length new)) (write_try bounds w pipe (source.Parked p) (length new) parked.moved) t
+    (write_left bounds w pipe (source.Parked p) fd new parked.moved left) h
+again_left bounds w p o parked pipe (call.Open name flags) t left h = some_try (Left (call.Open name flags)) (open_ready w o pipe parked.openings)
+    (Ends (Number o.fd) on_files.Nothing) t tt h
 again_left bounds w p o parked pipe other t left h = cc
 
 -- a process that waits goes on waiting, having moved more
-total_well : (ds : List (Option Description)) (x : Process) (parked : Parked) (moved : ℕ) → x.parked ≡ Some parked → Well ds x → HasLeft parked.call moved → Well ds (with_total moved x)
+total_well : (ds : List (Option Description)) (x : Process) (parked : Parked) (moved : ℕ) → x.parked ≡ Some parked → Well ds x → HasLeft parked.call moved →
+    Well ds (with_total moved x)
 total_well ds x parked moved is well left other h =
     let old = well parked is in
     let now : option_map (moved_in moved) (Some parked) ≡ Some other = ap (option_map (moved_in moved)) (sym is) ∙ h in
     let same : moved_in moved parked ≡ other = cc in
     subst (IsWell ds (with_total moved x)) same (record { attached = old.attached; moved = left; may = old.may })
 
-next_keeps : (w : World) (p : ℕ) (parked : Parked) (t : Try) → Wells w → parked_of (slot w.processes p) ≡ Some parked → Left parked.call t → KeepsAll w [] (next_try p t)
+next_keeps : (w : World) (p : ℕ) (parked : Parked) (t : Try) → Wells w → parked_of (slot w.processes p) ≡ Some parked → Left parked.call t →
+    KeepsAll w [] (next_try p t)
 next_keeps w p parked (Ends reply edit) h is left = by_files edit
   where
     after_it : Wells (with_processes w (on_process.Unpark p))
@@ -404,13 +437,15 @@ next_keeps w p parked (Ends reply edit) h is left = by_files edit
 next_keeps w p parked (Waits moved edit) h is left = by_files edit
   where
     after_it : Wells (with_processes w (on_process.Total p moved))
-    after_it = edited_well w.descriptions w.processes p (with_total moved) h (λ x here. total_well w.descriptions x parked moved (ap parked_of (sym here) ∙ is) (h p x here) left)
+    after_it = edited_well w.descriptions w.processes p (with_total moved) h (λ x here. total_well w.descriptions x parked moved (ap parked_of (sym here) ∙ is)
+        (h p x here) left)
 
     by_files : (e : FileEdit) → KeepsAll w [] (next_try p (Waits moved e))
     by_files on_files.Nothing = after_it
     by_files other = after_it
 
-parked_left : (w : World) (p : ℕ) (there : Option Process) (parked : Parked) → slot w.processes p ≡ there → parked_of there ≡ Some parked → Wells w → HasLeft parked.call parked.moved
+parked_left : (w : World) (p : ℕ) (there : Option Process) (parked : Parked) → slot w.processes p ≡ there → parked_of there ≡ Some parked → Wells w →
+    HasLeft parked.call parked.moved
 parked_left w p None parked here is h = cc
 parked_left w p (Some x) parked here is h = (h p x here parked is).moved
 
@@ -428,21 +463,26 @@ acts_keep bounds w actor act.Attach d h k = where_may (KeepsAll w []) true (deci
   where
     by_page : KeepsAll w [] (decided_by (attach w actor))
     by_page = page_has (KeepsAll w []) (attach w actor) (λ error. h)
-        (λ _. edited_well w.descriptions w.processes actor with_connection h (λ x here parked is. let old = h actor x here parked is in record { attached = refl; moved = old.moved; may = old.may }))
-acts_keep bounds w actor (act.Call c) d h k = where_may (KeepsAll w (given (act.Call c))) (can_call (slot w.processes actor)) (decided bounds w actor c) d (λ can. calls_keep bounds w actor c (caller_idle w actor can) h) k
+        (λ _. edited_well w.descriptions w.processes actor with_connection h (λ x here parked is. let old = h actor x here parked is in
+        record { attached = refl; moved = old.moved; may = old.may }))
+acts_keep bounds w actor (act.Call c) d h k = where_may (KeepsAll w (given (act.Call c))) (can_call (slot w.processes actor)) (decided bounds w actor c) d
+    (λ can. calls_keep bounds w actor c (caller_idle w actor can) h) k
 acts_keep bounds w actor act.Resume d h k =
     resume_has (KeepsAll w []) bounds w actor d
-    (λ parked o pipe t is on at again. next_keeps w actor parked t h is (again_left bounds w actor o parked pipe parked.call t (parked_left w actor (slot w.processes actor) parked refl is h) again)) k
+    (λ parked o pipe t is on at again. next_keeps w actor parked t h is
+    (again_left bounds w actor o parked pipe parked.call t (parked_left w actor (slot w.processes actor) parked refl is h) again)) k
 acts_keep bounds w actor act.Exit d h k =
     where_may (KeepsAll w []) (is_some (slot w.processes actor)) (exit actor) d (λ _. each_set (Well w.descriptions) w.processes actor None h (λ x e. cc)) k
 acts_keep bounds w actor act.CloseRun d h k = where_may (KeepsAll w []) (eqb actor HOUSE && not w.closed) close_run d (λ _. h) k
 
 -- a sweep takes no description that a descriptor leads to
-swept_may : (w : World) (p : ℕ) (x : Process) (fd : ℕ) (c : Call) (e : Option ℕ) → slot w.processes p ≡ Some x → slot x.table fd ≡ e → lets c (led w.descriptions e) ≡ true → lets c (led (sweep w).descriptions e) ≡ true
+swept_may : (w : World) (p : ℕ) (x : Process) (fd : ℕ) (c : Call) (e : Option ℕ) → slot w.processes p ≡ Some x → slot x.table fd ≡ e →
+    lets c (led w.descriptions e) ≡ true → lets c (led (sweep w).descriptions e) ≡ true
 swept_may w p x fd c None here at h = cc
 swept_may w p x fd c (Some n) here at h =
     let first : 0 + n ≡ n = omega arith in
-    ap (lets c) (kept_as_is (is_referred w.processes) 0 w.descriptions n (ap (is_referred w.processes) first ∙ descriptor_counted w.processes p x fd n here at)) ∙ h
+    ap (lets c) (kept_as_is (is_referred w.processes) 0 w.descriptions n (ap (is_referred w.processes) first ∙
+    descriptor_counted w.processes p x fd n here at)) ∙ h
 
 sweep_wells : (w : World) → Wells w → Wells (sweep w)
 sweep_wells w h p x here parked is =
@@ -497,7 +537,8 @@ step_keeps_waits bounds w actor a s each h =
 waits_from : (bounds : Bounds) (w : World) (rs : List Record) → EachWaitsWell w → EachWaitsWell (world_from bounds w rs)
 waits_from bounds w [] each = each
 waits_from bounds w (r ∷ rs) each =
-    waits_from bounds (after bounds w r) rs (stepped_or_not EachWaitsWell w (step bounds w r.actor r.act) each (λ s h. step_keeps_waits bounds w r.actor r.act s each h))
+    waits_from bounds (after bounds w r) rs (stepped_or_not EachWaitsWell w (step bounds w r.actor r.act) each
+    (λ s h. step_keeps_waits bounds w r.actor r.act s each h))
 
 pub history_waits : HistoryWaits
 history_waits bounds h = waits_from bounds empty_world h (λ p parked is. cc)

@@ -10,4 +10,8 @@ use Rattle.posix_model.specs.declared.change.ProcessEdit.TheVariants as on_proce
 -- fork(): a child under the next number, whose descriptors refer to the same descriptions; it has no connection yet (own); EAGAIN where
 -- there may be no further process (own)
 abbrev pub fork : World → ℕ → Page
-fork w process = record { faults = (is_full w, EAGAIN) ∷ []; effect = acts (Number (length w.processes)) (on_process.Add (copied_table (slot w.processes process)) false) }
+fork w process = record {
+  faults = (is_full w, EAGAIN) ∷ [];
+  effect =
+      acts (Number (length w.processes)) (on_process.Add (copied_table (slot w.processes process)) false);
+}

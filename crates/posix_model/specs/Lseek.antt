@@ -25,7 +25,11 @@ lseek_faults to o =
 
 -- the offset becomes a place in the file, and is told
 abbrev pub lseek_to : ℤ → OpenDescriptor → Page
-lseek_to to o = record { faults = lseek_faults to o; effect = does (Number (nat_abs to)) on_files.Nothing (on_table.Describe o.number (on_description.Offset (nat_abs to))) }
+lseek_to to o = record {
+  faults = lseek_faults to o;
+  effect = does (Number (nat_abs to)) on_files.Nothing
+      (on_table.Describe o.number (on_description.Offset (nat_abs to)));
+}
 
 -- lseek(fd, offset, whence)
 abbrev pub lseek : World → ℤ → Whence → OpenDescriptor → Page

@@ -119,7 +119,8 @@ opens_end w process flags number fifo =
 abbrev pub open_end : World → ℕ → List ℕ → OpenFlags → ℕ → Fifo → Decided
 open_end w process name flags number fifo =
     if has flags flag.nonblocking || is_met w (mode_of flags) fifo then opens_end w process flags number fifo
-    else parks process (waiting (call.Open name flags) (free_descriptor w process) 0 (opposite_openings (mode_of flags) (Some fifo))) (opens_end w process flags number fifo)
+    else parks process (waiting (call.Open name flags) (free_descriptor w process) 0 (opposite_openings (mode_of flags) (Some fifo)))
+    (opens_end w process flags number fifo)
 
 -- a file that is there is opened: a regular one, or an end of a FIFO
 abbrev pub open_there : World → ℕ → List ℕ → OpenFlags → ℕ → Option Fifo → Decided

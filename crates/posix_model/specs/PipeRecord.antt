@@ -82,7 +82,8 @@ got bounds h pipe = joined_from (got_by pipe) bounds empty_world h
 
 -- what a history put into a pipe that is there is what it got from it, followed by what the pipe holds (page of pipe: first in, first out)
 abbrev pub KeepsBytes : Bounds → List Record → Type 0
-KeepsBytes bounds h = (pipe : ℕ) → is_some (slot (world_of bounds h).pipes pipe) ≡ true → put bounds h pipe ≡ got bounds h pipe ++ held_bytes (world_of bounds h) pipe
+KeepsBytes bounds h = (pipe : ℕ) → is_some (slot (world_of bounds h).pipes pipe) ≡ true → put bounds h pipe ≡ got bounds h pipe ++ held_bytes
+    (world_of bounds h) pipe
 
 -- one record put the part, and it stands in the list in one piece, after the bytes that were put before
 pub record IsUnbroken (part by_one before bytes : List ℕ) : Type 0 where
@@ -93,5 +94,6 @@ pub record IsUnbroken (part by_one before bytes : List ℕ) : Type 0 where
 -- the data of a write of at most PIPE_BUF bytes that moved any stands unbroken in what a history put into its pipe, from one record (page of write)
 abbrev pub KeepsSmallWhole : Bounds → List Record → Type 0
 KeepsSmallWhole bounds h = (before rest : List Record) (r : Record) (t : TurnOn) (pipe : ℕ) → before ++ r ∷ rest ≡ h →
-    turn_on (world_of bounds before) r.actor r.act ≡ Some t → is_on pipe t.on ≡ true → length (data_given t.turn.call) ≤ PIPE_BUF → 0 < took (world_of bounds before) r →
+    turn_on (world_of bounds before) r.actor r.act ≡ Some t → is_on pipe t.on ≡ true → length (data_given t.turn.call) ≤ PIPE_BUF →
+    0 < took (world_of bounds before) r →
     IsUnbroken (data_given t.turn.call) (put_by pipe (world_of bounds before) r) (put bounds before pipe) (put bounds h pipe)

@@ -21,7 +21,8 @@ read_faults count o =
 
 -- the bytes are told, and the offset goes past them; none are no change
 abbrev pub gives : OpenDescriptor → List ℕ → Decided
-gives o got = if length got == 0 then tells (Data got) else does (Data got) on_files.Nothing (on_table.Describe o.number (on_description.Offset (o.description.offset + length got)))
+gives o got = if length got == 0 then tells (Data got) else does (Data got) on_files.Nothing
+    (on_table.Describe o.number (on_description.Offset (o.description.offset + length got)))
 
 -- a read of a pipe or FIFO: of no bytes it changes nothing, else it is tried, and may wait
 abbrev pub read_end : World → ℕ → Call → ℕ → OpenDescriptor → ℕ → Decided

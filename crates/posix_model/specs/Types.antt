@@ -27,7 +27,35 @@ pub use Rattle.posix_model.specs.declared.change.TableEdit.{TableEdit}
 pub use Rattle.posix_model.specs.declared.change.Change.{Change}
 pub use Rattle.posix_model.specs.declared.change.Decided.{Decided}
 pub use Rattle.posix_model.specs.declared.change.Try.{Try}
-pub use Rattle.call_types.specs.declared.errno.Errno.TheVariants.{EAGAIN, EBADF, EEXIST, EFBIG, EINVAL, EMFILE, EMLINK, ENAMETOOLONG, ENFILE, ENOENT, ENOSPC, ENXIO, EOVERFLOW, EPIPE, ESPIPE, ESRCH}
-pub use Rattle.call_types.specs.declared.limits.TheConstants.{DESCRIPTIONS_MAX, LINK_MAX, NAMES_MAX, NAME_MAX, OFFSET_MAX, OPEN_MAX, PIPE_BUF, PROCESSES_MAX, RECORD_LENGTH_MAX, TRANSFER_MAX}
+pub use Rattle.call_types.specs.declared.errno.Errno.TheVariants.{
+  EAGAIN,
+  EBADF,
+  EEXIST,
+  EFBIG,
+  EINVAL,
+  EMFILE,
+  EMLINK,
+  ENAMETOOLONG,
+  ENFILE,
+  ENOENT,
+  ENOSPC,
+  ENXIO,
+  EOVERFLOW,
+  EPIPE,
+  ESPIPE,
+  ESRCH,
+}
+pub use Rattle.call_types.specs.declared.limits.TheConstants.{
+  DESCRIPTIONS_MAX,
+  LINK_MAX,
+  NAMES_MAX,
+  NAME_MAX,
+  OFFSET_MAX,
+  OPEN_MAX,
+  PIPE_BUF,
+  PROCESSES_MAX,
+  RECORD_LENGTH_MAX,
+  TRANSFER_MAX,
+}
 pub use Rattle.call_types.specs.declared.outcome.Outcome.TheVariants.{Parked as ParkedAt, Part, Reply as Replied}
 pub use Rattle.call_types.specs.declared.outcome.Reply.TheVariants.{Data, Done, Error, Number, Pair, Stat as StatReply}

@@ -39,7 +39,8 @@ puts bytes file start n moved = if length bytes == 0 then tells (Number 0) else 
 
 -- a write to a regular file from a position on: what fits, and the offset goes past it
 abbrev pub write_file : Bounds → ℕ → List ℕ → OpenDescriptor → Decided
-write_file bounds start bytes o = let n = fitting bounds start bytes in puts bytes (file_at o) start n (on_table.Describe o.number (on_description.Offset (start + n)))
+write_file bounds start bytes o = let n = fitting bounds start bytes in
+    puts bytes (file_at o) start n (on_table.Describe o.number (on_description.Offset (start + n)))
 
 -- a write to a pipe or FIFO: of no bytes it changes nothing (own), else it is tried, and may wait
 abbrev pub write_end : Bounds → World → ℕ → Call → List ℕ → OpenDescriptor → ℕ → Decided

@@ -5,7 +5,8 @@ use Rattle.posix_model.specs.declared.world.World.{World}
 use Rattle.posix_model.specs.History.{after, world_from, legal_from}
 
 -- records that go on after others are legal with them
-pub legal_append : (bounds : Bounds) (w : World) (h rs : List Record) → legal_from bounds w h → legal_from bounds (world_from bounds w h) rs → legal_from bounds w (h ++ rs)
+pub legal_append : (bounds : Bounds) (w : World) (h rs : List Record) → legal_from bounds w h → legal_from bounds (world_from bounds w h) rs →
+    legal_from bounds w (h ++ rs)
 legal_append bounds w [] rs first next = next
 legal_append bounds w (r ∷ h) rs first next = (first.0, legal_append bounds (after bounds w r) h rs first.1 next)
 

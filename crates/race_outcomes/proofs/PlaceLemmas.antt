@@ -49,7 +49,8 @@ le_or_lt m n = elim (cases_lt n m) [
 ]
 
 -- what stands in a list with one element more stood there, or is that one
-pub in_push : {X : Type 0} (xs : List X) (x : X) (k : ℕ) (y : X) → slice_get (xs ++ x ∷ []) k ≡ Some y → ((k < length xs) × (slice_get xs k ≡ Some y)) ⊎ ((k ≡ length xs) × (y ≡ x))
+pub in_push : {X : Type 0} (xs : List X) (x : X) (k : ℕ) (y : X) → slice_get (xs ++ x ∷ []) k ≡ Some y → ((k < length xs) × (slice_get xs k ≡ Some y)) ⊎
+    ((k ≡ length xs) × (y ≡ x))
 in_push xs x k y at_k = elim (below_or_last k (length xs) (subst (λ n. k < n) (length_push xs x) (slice_get_within (xs ++ x ∷ []) k y at_k))) [
   | inl lower ↦ inl (lower, sym (get_front xs (x ∷ []) k lower) ∙ at_k)
   | inr last ↦ inr (last, same_some (slice_get (xs ++ x ∷ []) (length xs)) y x (subst (λ n. slice_get (xs ++ x ∷ []) n ≡ Some y) last at_k) (get_last xs x))

@@ -50,20 +50,37 @@ not_before place lane before = elim before [
 has_kept : {P : Type 0} (met more : List (Met P)) (p : P) → Has met p → Has (met ++ more) p
 has_kept met more p has = record { place = has.place; entry = has.entry; stands = kept_in met more has.place has.entry has.stands; is = has.is }
 
-traced_kept : {P : Type 0} (moves : P → ℕ → Option P) (met more : List (Met P)) (k : ℕ) (p : P) (by : Option Move) → IsTraced moves met k p by → IsTraced moves (met ++ more) k p by
+traced_kept : {P : Type 0} (moves : P → ℕ → Option P) (met more : List (Met P)) (k : ℕ) (p : P) (by : Option Move) → IsTraced moves met k p by →
+    IsTraced moves (met ++ more) k p by
 traced_kept moves met more k p None traced = traced
-traced_kept moves met more k p (Some by) traced = record { before = traced.before; entry = traced.entry; stands = kept_in met more by.from traced.entry traced.stands; goes = traced.goes }
+traced_kept moves met more k p (Some by) traced = record {
+  before = traced.before;
+  entry = traced.entry;
+  stands =
+      kept_in met more by.from traced.entry traced.stands;
+  goes = traced.goes;
+}
 
-order_kept : (a b c d : ℕ) → ((k n : ℕ) → IsBefore k n a b → IsBefore k n c d) → (orders more : List (List ℕ)) (order : List ℕ) (by : Option Move) → IsOrder a b orders order by → IsOrder c d (orders ++ more) order by
+order_kept : (a b c d : ℕ) → ((k n : ℕ) → IsBefore k n a b → IsBefore k n c d) → (orders more : List (List ℕ)) (order : List ℕ) (by : Option Move) →
+    IsOrder a b orders order by → IsOrder c d (orders ++ more) order by
 order_kept a b c d wider orders more order None is = is
-order_kept a b c d wider orders more order (Some by) is = record { done = wider by.from by.lane is.done; front = is.front; stands = kept_in orders more by.from is.front is.stands; is = is.is }
+order_kept a b c d wider orders more order (Some by) is = record {
+  done = wider by.from by.lane is.done;
+  front = is.front;
+  stands =
+      kept_in orders more by.from is.front is.stands;
+  is = is.is;
+}
 
-order_later : (a b c d : ℕ) → ((k n : ℕ) → IsBefore k n a b → IsBefore k n c d) → (orders : List (List ℕ)) (order : List ℕ) (by : Option Move) → IsOrder a b orders order by → IsOrder c d orders order by
+order_later : (a b c d : ℕ) → ((k n : ℕ) → IsBefore k n a b → IsBefore k n c d) → (orders : List (List ℕ)) (order : List ℕ) (by : Option Move) →
+    IsOrder a b orders order by → IsOrder c d orders order by
 order_later a b c d wider orders order None is = is
 order_later a b c d wider orders order (Some by) is = record { done = wider by.from by.lane is.done; front = is.front; stands = is.stands; is = is.is }
 
 -- a search that met nothing new
-searched_on : {P : Type 0} (moves : P → ℕ → Option P) (start : P) (most a b c d : ℕ) (met : List (Met P)) → ((k n : ℕ) → IsBefore k n a b → IsBefore k n c d) → Searched moves start most a b met → ((k n : ℕ) (m : Met P) (q : P) → IsBefore k n c d → slice_get met k ≡ Some m → moves m.position n ≡ Some q → Has met q) → Searched moves start most c d met
+searched_on : {P : Type 0} (moves : P → ℕ → Option P) (start : P) (most a b c d : ℕ) (met : List (Met P)) → ((k n : ℕ) → IsBefore k n a b → IsBefore k n c d) →
+    Searched moves start most a b met → ((k n : ℕ) (m : Met P) (q : P) → IsBefore k n c d → slice_get met k ≡ Some m → moves m.position n ≡ Some q →
+    Has met q) → Searched moves start most c d met
 searched_on moves start most a b c d met wider so_far closed = record {
   few = so_far.few;
   begun = so_far.begun;
@@ -71,12 +88,19 @@ searched_on moves start most a b c d met wider so_far closed = record {
   orders = so_far.orders;
   many = so_far.many;
   apart = so_far.apart;
-  order_of = λ k m at. let o = so_far.order_of k m at in record { order = o.order; stands = o.stands; leads = o.leads; goes_on = order_later a b c d wider so_far.orders o.order m.by o.goes_on };
+  order_of = λ k m at. let o = so_far.order_of k m at in record {
+    order = o.order;
+    stands = o.stands;
+    leads = o.leads;
+    goes_on =
+        order_later a b c d wider so_far.orders o.order m.by o.goes_on;
+  };
   closed = closed;
 }
 
 -- a search begins with its start
-pub begun_with : {P : Type 0} (moves : P → ℕ → Option P) (start : P) (most : ℕ) → 0 < most → Searched moves start most 0 0 (record { position = start; by = None } ∷ [])
+pub begun_with : {P : Type 0} (moves : P → ℕ → Option P) (start : P) (most : ℕ) → 0 < most →
+    Searched moves start most 0 0 (record { position = start; by = None } ∷ [])
 begun_with {P} moves start most some =
     let first : Met P = record { position = start; by = None } in
     let empty : List ℕ = [] in
@@ -92,7 +116,8 @@ begun_with {P} moves start most some =
       apart = apart_push [] [] (λ k at. none_some (slice_get [] k) [] refl at) (λ i k x at_i at_k. none_some (slice_get [] i) x refl at_i);
       order_of = λ k m at. elim (in_push [] first k m at) [
         | inl within ↦ absurd (omega (arith, within.0))
-        | inr last ↦ subst (λ x. OrderOf moves start 0 0 ([] ∷ []) k x) (sym last.1) (record { order = []; stands = subst (λ n. slice_get (empty ∷ []) n ≡ Some empty) (sym last.0) refl; leads = refl; goes_on = refl })
+        | inr last ↦ subst (λ x. OrderOf moves start 0 0 ([] ∷ []) k x) (sym last.1)
+            (record { order = []; stands = subst (λ n. slice_get (empty ∷ []) n ≡ Some empty) (sym last.0) refl; leads = refl; goes_on = refl })
       ];
       closed = λ k n m q before at goes. elim before [
         | inl lower ↦ absurd (omega (arith, lower))
@@ -105,22 +130,27 @@ not_empty : (xs : List ℕ) (x : ℕ) → xs ++ x ∷ [] ≡ [] → ⊥
 not_empty xs x same = omega (arith, length_push xs x, ap length same)
 
 -- an order that goes on by this place and lane is that of no position yet
-new_by : (orders : List (List ℕ)) (place lane : ℕ) (front order : List ℕ) (by : Option Move) → AreApart orders → slice_get orders place ≡ Some front → IsOrder place lane orders order by → order ≡ front ++ lane ∷ [] → ⊥
+new_by : (orders : List (List ℕ)) (place lane : ℕ) (front order : List ℕ) (by : Option Move) → AreApart orders → slice_get orders place ≡ Some front →
+    IsOrder place lane orders order by → order ≡ front ++ lane ∷ [] → ⊥
 new_by orders place lane front order None apart stands is same = not_empty front lane (sym same ∙ is)
 new_by orders place lane front order (Some by) apart stands is same =
     let parts : (is.front ≡ front) × (by.lane ≡ lane) = same_from_push is.front front by.lane lane (sym is.is ∙ same) in
     let from : by.from ≡ place = apart by.from place front (subst (λ o. slice_get orders by.from ≡ Some o) parts.0 is.stands) stands in
     not_before place lane (subst (λ k. IsBefore k lane place lane) from (subst (λ n. IsBefore by.from n place lane) parts.1 is.done))
 
-is_new : {P : Type 0} (moves : P → ℕ → Option P) (start : P) (most place lane : ℕ) (met : List (Met P)) (so_far : Searched moves start most place lane met) (front : List ℕ) → slice_get so_far.orders place ≡ Some front → (k : ℕ) → slice_get so_far.orders k ≡ Some (front ++ lane ∷ []) → ⊥
+is_new : {P : Type 0} (moves : P → ℕ → Option P) (start : P) (most place lane : ℕ) (met : List (Met P)) (so_far : Searched moves start most place lane met)
+    (front : List ℕ) → slice_get so_far.orders place ≡ Some front → (k : ℕ) → slice_get so_far.orders k ≡ Some (front ++ lane ∷ []) → ⊥
 is_new moves start most place lane met so_far front stands k at =
     let within : k < length met = subst (λ n. k < n) so_far.many (slice_get_within so_far.orders k (front ++ lane ∷ []) at) in
     let m : (m : _) × (slice_get met k ≡ Some m) = some_there met k within in
     let o = so_far.order_of k m.0 m.1 in
-    new_by so_far.orders place lane front o.order m.0.by so_far.apart stands o.goes_on (same_some (slice_get so_far.orders k) o.order (front ++ lane ∷ []) o.stands at)
+    new_by so_far.orders place lane front o.order m.0.by so_far.apart stands o.goes_on
+    (same_some (slice_get so_far.orders k) o.order (front ++ lane ∷ []) o.stands at)
 
 -- where there is no room for where a move leads, there are more orders than positions
-pub more_orders : {P : Type 0} (moves : P → ℕ → Option P) (start : P) (most place lane : ℕ) (met : List (Met P)) (from : Met P) (q : P) → slice_get met place ≡ Some from → moves from.position lane ≡ Some q → most ≤ length met → Searched moves start most place lane met → MoreOrders moves start most
+pub more_orders : {P : Type 0} (moves : P → ℕ → Option P) (start : P) (most place lane : ℕ) (met : List (Met P)) (from : Met P) (q : P) →
+    slice_get met place ≡ Some from → moves from.position lane ≡ Some q → most ≤ length met → Searched moves start most place lane met →
+    MoreOrders moves start most
 more_orders {P} moves start most place lane met from q at goes full so_far =
     let o = so_far.order_of place from at in
     let next : List ℕ = o.order ++ lane ∷ [] in
@@ -149,16 +179,20 @@ no_room moves start = record {
 }
 
 -- a move that leads nowhere, or to what was met
-stays_on : {P : Type 0} (moves : P → ℕ → Option P) (start : P) (most place lane : ℕ) (met : List (Met P)) (from : Met P) → slice_get met place ≡ Some from → ((q : P) → moves from.position lane ≡ Some q → Has met q) → Searched moves start most place lane met → Searched moves start most place (lane + 1) met
-stays_on moves start most place lane met from at there so_far = searched_on moves start most place lane place (lane + 1) met (before_wider place lane) so_far (λ k n m q before at_k goes. elim (before_or_here k n place lane before) [
-  | inl earlier ↦ so_far.closed k n m q earlier at_k goes
-  | inr here ↦
-      let same : m ≡ from = same_some (slice_get met place) m from (subst (λ i. slice_get met i ≡ Some m) here.0 at_k) at in
-      there q (subst (λ x. moves x.position lane ≡ Some q) same (subst (λ i. moves m.position i ≡ Some q) here.1 goes))
-])
+stays_on : {P : Type 0} (moves : P → ℕ → Option P) (start : P) (most place lane : ℕ) (met : List (Met P)) (from : Met P) → slice_get met place ≡ Some from →
+    ((q : P) → moves from.position lane ≡ Some q → Has met q) → Searched moves start most place lane met → Searched moves start most place (lane + 1) met
+stays_on moves start most place lane met from at there so_far = searched_on moves start most place lane place (lane + 1) met (before_wider place lane) so_far
+    (λ k n m q before at_k goes. elim (before_or_here k n place lane before) [
+      | inl earlier ↦ so_far.closed k n m q earlier at_k goes
+      | inr here ↦
+          let same : m ≡ from = same_some (slice_get met place) m from (subst (λ i. slice_get met i ≡ Some m) here.0 at_k) at in
+          there q (subst (λ x. moves x.position lane ≡ Some q) same (subst (λ i. moves m.position i ≡ Some q) here.1 goes))
+    ])
 
 -- a move that leads to a new position
-grows_on : {P : Type 0} (moves : P → ℕ → Option P) (start : P) (most place lane : ℕ) (met : List (Met P)) (from : Met P) (to : P) → slice_get met place ≡ Some from → moves from.position lane ≡ Some to → length met < most → Searched moves start most place lane met → Searched moves start most place (lane + 1) (met ++ record { position = to; by = Some (record { from = place; lane = lane }) } ∷ [])
+grows_on : {P : Type 0} (moves : P → ℕ → Option P) (start : P) (most place lane : ℕ) (met : List (Met P)) (from : Met P) (to : P) →
+    slice_get met place ≡ Some from → moves from.position lane ≡ Some to → length met < most → Searched moves start most place lane met →
+    Searched moves start most place (lane + 1) (met ++ record { position = to; by = Some (record { from = place; lane = lane }) } ∷ [])
 grows_on {P} moves start most place lane met from to at goes room so_far =
     let by : Move = record { from = place; lane = lane } in
     let next : Met P = record { position = to; by = Some by } in
@@ -198,7 +232,8 @@ grows_on {P} moves start most place lane met from to at goes room so_far =
           | inl earlier ↦ has_kept met (next ∷ []) q (so_far.closed k n m q earlier old.1 moves_on)
           | inr here ↦
               let same : m ≡ from = same_some (slice_get met place) m from (subst (λ i. slice_get met i ≡ Some m) here.0 old.1) at in
-              let leads : moves from.position lane ≡ Some q = subst (λ x. moves x.position lane ≡ Some q) same (subst (λ i. moves m.position i ≡ Some q) here.1 moves_on) in
+              let leads : moves from.position lane ≡ Some q = subst (λ x. moves x.position lane ≡ Some q) same
+              (subst (λ i. moves m.position i ≡ Some q) here.1 moves_on) in
               subst (λ x. Has (met ++ next ∷ []) x) (same_some (moves from.position lane) to q goes leads) has_next
         ]
         | inr last ↦ absurd (omega (arith, before_low k n place (lane + 1) before, last.0, within))
@@ -206,20 +241,26 @@ grows_on {P} moves start most place lane met from to at goes room so_far =
     }
 
 -- the move of one lane
-pub no_move : {P : Type 0} (moves : P → ℕ → Option P) (most place lane : ℕ) (met : List (Met P)) (from : Met P) → slice_get met place ≡ Some from → moves from.position lane ≡ None → TakesMove moves most place lane met met false
+pub no_move : {P : Type 0} (moves : P → ℕ → Option P) (most place lane : ℕ) (met : List (Met P)) (from : Met P) → slice_get met place ≡ Some from →
+    moves from.position lane ≡ None → TakesMove moves most place lane met met false
 no_move moves most place lane met from at none = record {
   on = λ start. stays_on moves start most place lane met from at (λ q goes. none_some (moves from.position lane) q none goes);
   kept = λ k m is. is;
   tells = λ m is. (λ same. subst (λ x. moves x.position lane ≡ None) (same_some (slice_get met place) from m at is) none, λ same. refl);
 }
 
-pub one_move : {P : Type 0} (moves : P → ℕ → Option P) (most place lane : ℕ) (old new : List (Met P)) (from : Met P) (to : P) → slice_get old place ≡ Some from → moves from.position lane ≡ Some to → TakesIn most old new (record { position = to; by = Some (record { from = place; lane = lane }) }) → TakesMove moves most place lane old new true
+pub one_move : {P : Type 0} (moves : P → ℕ → Option P) (most place lane : ℕ) (old new : List (Met P)) (from : Met P) (to : P) →
+    slice_get old place ≡ Some from → moves from.position lane ≡ Some to →
+    TakesIn most old new (record { position = to; by = Some (record { from = place; lane = lane }) }) → TakesMove moves most place lane old new true
 one_move {P} moves most place lane old new from to at goes takes =
     let next : Met P = record { position = to; by = Some (record { from = place; lane = lane }) } in
     record {
       on = λ start so_far. elim takes [
-        | inl was ↦ subst (λ xs. Searched moves start most place (lane + 1) xs) (sym was.0) (stays_on moves start most place lane old from at (λ q leads. subst (λ x. Has old x) (same_some (moves from.position lane) to q goes leads) was.1) so_far)
-        | inr more ↦ subst (λ xs. Searched moves start most place (lane + 1) xs) (sym more.0) (grows_on moves start most place lane old from to at goes more.1 so_far)
+        | inl was ↦ subst (λ xs. Searched moves start most place (lane + 1) xs) (sym was.0)
+            (stays_on moves start most place lane old from at (λ q leads. subst (λ x. Has old x) (same_some (moves from.position lane) to q goes leads) was.1)
+            so_far)
+        | inr more ↦ subst (λ xs. Searched moves start most place (lane + 1) xs) (sym more.0)
+            (grows_on moves start most place lane old from to at goes more.1 so_far)
       ];
       kept = λ k m is. elim takes [
         | inl was ↦ subst (λ xs. slice_get xs k ≡ Some m) (sym was.0) is
@@ -238,7 +279,9 @@ none_below moves most place met = record {
   tells = λ m is. (λ same n less. absurd (omega (arith, less)), λ none. refl);
 }
 
-pub one_more_below : {P : Type 0} (moves : P → ℕ → Option P) (most place upto : ℕ) (old mid new : List (Met P)) (moved goes either : Bool) → ((either ≡ false) ↔ ((moved ≡ false) × (goes ≡ false))) → TakesBelow moves most place upto old mid moved → TakesMove moves most place upto mid new goes → TakesBelow moves most place (upto + 1) old new either
+pub one_more_below : {P : Type 0} (moves : P → ℕ → Option P) (most place upto : ℕ) (old mid new : List (Met P)) (moved goes either : Bool) →
+    ((either ≡ false) ↔ ((moved ≡ false) × (goes ≡ false))) → TakesBelow moves most place upto old mid moved → TakesMove moves most place upto mid new goes →
+    TakesBelow moves most place (upto + 1) old new either
 one_more_below moves most place upto old mid new moved goes either is below takes = record {
   on = λ start so_far. takes.on start (below.on start so_far);
   kept = λ k m at. takes.kept k m (below.kept k m at);
@@ -253,7 +296,8 @@ one_more_below moves most place upto old mid new moved goes either is below take
       );
 }
 
-pub all_below : {P : Type 0} (moves : P → ℕ → Option P) (most place lanes : ℕ) (old new : List (Met P)) (goes : Bool) → place < length old → ((p : P) (n : ℕ) → lanes ≤ n → moves p n ≡ None) → TakesBelow moves most place lanes old new goes → TakesMoves moves most place old new goes
+pub all_below : {P : Type 0} (moves : P → ℕ → Option P) (most place lanes : ℕ) (old new : List (Met P)) (goes : Bool) → place < length old →
+    ((p : P) (n : ℕ) → lanes ≤ n → moves p n ≡ None) → TakesBelow moves most place lanes old new goes → TakesMoves moves most place old new goes
 all_below moves most place lanes old new goes within past below =
     let next_place : (k n : ℕ) → IsBefore k n (place + 1) 0 → IsBefore k n place lanes ⊎ (lanes ≤ n) = λ k n before. elim before [
       | inl lower ↦ elim (below_or_last k place lower) [
@@ -283,7 +327,9 @@ all_below moves most place lanes old new goes within past below =
           );
     }
 
-pub too_many : {P : Type 0} (moves : P → ℕ → Option P) (most place upto : ℕ) (old mid : List (Met P)) (moved : Bool) → TakesBelow moves most place upto old mid moved → ((start : P) → Searched moves start most place upto mid → MoreOrders moves start most) → (start : P) → Searched moves start most place 0 old → MoreOrders moves start most
+pub too_many : {P : Type 0} (moves : P → ℕ → Option P) (most place upto : ℕ) (old mid : List (Met P)) (moved : Bool) →
+    TakesBelow moves most place upto old mid moved → ((start : P) → Searched moves start most place upto mid → MoreOrders moves start most) → (start : P) →
+    Searched moves start most place 0 old → MoreOrders moves start most
 too_many moves most place upto old mid moved below many start so_far = many start (below.on start so_far)
 
 -- the ends are noted, place by place
@@ -302,7 +348,8 @@ end_was moves old new kept k within at =
     let same : at.entry ≡ was.0 = same_some (slice_get new k) at.entry was.0 at.stands (kept k was.0 was.1) in
     record { entry = was.0; stands = was.1; end = subst (λ x. IsEnd moves x.position) same at.end }
 
-one_more_noted : {P : Type 0} (moves : P → ℕ → Option P) (most place : ℕ) (old new : List (Met P)) (ends noted : List ℕ) (goes : Bool) → place < length old → NotedEnds moves old place ends → TakesMoves moves most place old new goes → NotesEnd ends noted place goes → NotedEnds moves new (place + 1) noted
+one_more_noted : {P : Type 0} (moves : P → ℕ → Option P) (most place : ℕ) (old new : List (Met P)) (ends noted : List ℕ) (goes : Bool) → place < length old →
+    NotedEnds moves old place ends → TakesMoves moves most place old new goes → NotesEnd ends noted place goes → NotedEnds moves new (place + 1) noted
 one_more_noted moves most place old new ends noted goes within so_far takes notes =
     let here : (m : _) × (slice_get old place ≡ Some m) = some_there old place within in
     let still : slice_get new place ≡ Some here.0 = takes.kept place here.0 here.1 in
@@ -323,7 +370,8 @@ one_more_noted moves most place old new ends noted goes within so_far takes note
             ]
         | inr last ↦
             let end_here : EndsAt moves old place = end_was moves old new takes.kept place within (subst (λ i. EndsAt moves new i) last at) in
-            let ends_so : IsEnd moves here.0.position = subst (λ x. IsEnd moves x.position) (same_some (slice_get old place) end_here.entry here.0 end_here.stands here.1) end_here.end in
+            let ends_so : IsEnd moves here.0.position = subst (λ x. IsEnd moves x.position)
+            (same_some (slice_get old place) end_here.entry here.0 end_here.stands here.1) end_here.end in
             elim notes [
               | inl moved ↦ absurd (grind (arith, moved.0, (takes.tells here.0 here.1).1 ends_so))
               | inr ended ↦ subst (λ xs. Contains xs k) (sym ended.1) (subst (λ i. Contains (ends ++ place ∷ []) i) (sym last) (Contains-push ends place))
@@ -332,16 +380,20 @@ one_more_noted moves most place old new ends noted goes within so_far takes note
     }
 
 -- the search of all places
-pub begun_so : {P : Type 0} (moves : P → ℕ → Option P) (start : P) (most : ℕ) → 0 < most → SoFar moves start most 0 (record { position = start; by = None } ∷ []) []
+pub begun_so : {P : Type 0} (moves : P → ℕ → Option P) (start : P) (most : ℕ) → 0 < most →
+    SoFar moves start most 0 (record { position = start; by = None } ∷ []) []
 begun_so moves start most some = record { searched = begun_with moves start most some; noted = no_end_yet moves _ }
 
-pub one_more_place : {P : Type 0} (moves : P → ℕ → Option P) (start : P) (most place : ℕ) (old new : List (Met P)) (ends noted : List ℕ) (goes : Bool) → place < length old → SoFar moves start most place old ends → TakesMoves moves most place old new goes → NotesEnd ends noted place goes → SoFar moves start most (place + 1) new noted
+pub one_more_place : {P : Type 0} (moves : P → ℕ → Option P) (start : P) (most place : ℕ) (old new : List (Met P)) (ends noted : List ℕ) (goes : Bool) →
+    place < length old → SoFar moves start most place old ends → TakesMoves moves most place old new goes → NotesEnd ends noted place goes →
+    SoFar moves start most (place + 1) new noted
 one_more_place moves start most place old new ends noted goes within so_far takes notes = record {
   searched = takes.on start so_far.searched;
   noted = one_more_noted moves most place old new ends noted goes within so_far.noted takes notes;
 }
 
-pub all_explored : {P : Type 0} (moves : P → ℕ → Option P) (start : P) (most place : ℕ) (met : List (Met P)) (ends : List ℕ) → length met ≤ place → SoFar moves start most place met ends → IsExplored moves start (record { met = met; ends = ends })
+pub all_explored : {P : Type 0} (moves : P → ℕ → Option P) (start : P) (most place : ℕ) (met : List (Met P)) (ends : List ℕ) → length met ≤ place →
+    SoFar moves start most place met ends → IsExplored moves start (record { met = met; ends = ends })
 all_explored moves start most place met ends all so_far =
     let searched = so_far.searched in
     let has_start : Has met start = record { place = 0; entry = record { position = start; by = None }; stands = searched.begun; is = refl } in
@@ -351,21 +403,28 @@ all_explored moves start most place met ends all so_far =
       sound = λ k m at. let o = searched.order_of k m at in (o.order, o.leads);
       complete = λ p reached. closed_leads moves (Has met) (λ x y n has goes.
           let within : has.place < place = omega (arith, slice_get_within met has.place has.entry has.stands, all) in
-          searched.closed has.place n has.entry y (inl within) has.stands (subst (λ z. moves z n ≡ Some y) (sym has.is) goes)) start p reached.0 has_start reached.1;
+          searched.closed has.place n has.entry y (inl within) has.stands (subst (λ z. moves z n ≡ Some y) (sym has.is) goes)) start p reached.0 has_start
+          reached.1;
       ends = so_far.noted.sound;
       all_ends = λ k at. so_far.noted.complete k (omega (arith, slice_get_within met k at.entry at.stands, all)) at;
     }
 
 -- from a position back to the one from which it was met
-pub goes_back : {P : Type 0} (moves : P → ℕ → Option P) (met : List (Met P)) (at : ℕ) (by : Move) (said : Option Move) → AreTraced moves met → at < length met → ((m : Met P) → slice_get met at ≡ Some m → said ≡ m.by) → said ≡ Some by → GoesBack moves met at by
+pub goes_back : {P : Type 0} (moves : P → ℕ → Option P) (met : List (Met P)) (at : ℕ) (by : Move) (said : Option Move) → AreTraced moves met → at < length met →
+    ((m : Met P) → slice_get met at ≡ Some m → said ≡ m.by) → said ≡ Some by → GoesBack moves met at by
 goes_back moves met at by said traced within says is =
     let here : (m : _) × (slice_get met at ≡ Some m) = some_there met at within in
-    let comes : ComesBy moves met at here.0.position by = subst (λ b. IsTraced moves met at here.0.position b) (sym (says here.0 here.1) ∙ is) (traced at here.0 here.1) in
+    let comes : ComesBy moves met at here.0.position by = subst (λ b. IsTraced moves met at here.0.position b) (sym (says here.0 here.1) ∙ is)
+    (traced at here.0 here.1) in
     record {
       before = comes.before;
       within = slice_get_within met by.from comes.entry comes.stands;
-      leads = λ place order leads first last at_first at_last.
-          (here.0.position, subst (λ x. moves x.position by.lane ≡ Some here.0.position) (same_some (slice_get met by.from) comes.entry first comes.stands at_first) comes.goes, leads here.0 last here.1 at_last);
+      leads = λ place order leads first last at_first at_last. (
+        here.0.position,
+        subst (λ x. moves x.position by.lane ≡ Some here.0.position)
+            (same_some (slice_get met by.from) comes.entry first comes.stands at_first) comes.goes,
+        leads here.0 last here.1 at_last,
+      );
     }
 
 -- nothing leads on from here but to here
@@ -373,7 +432,9 @@ pub leads_nowhere : {P : Type 0} (moves : P → ℕ → Option P) (met : List (M
 leads_nowhere moves met place first last at_first at_last = ap (λ m. m.position) (same_some (slice_get met place) first last at_first at_last)
 
 -- a position that was met by no move is the first
-pub from_first : {P : Type 0} (moves : P → ℕ → Option P) (met : List (Met P)) (at place : ℕ) (order : List ℕ) (said : Option Move) → AreTraced moves met → at < length met → ((m : Met P) → slice_get met at ≡ Some m → said ≡ m.by) → said ≡ None → LeadsBetween moves met at place order → LeadsTo moves met place order
+pub from_first : {P : Type 0} (moves : P → ℕ → Option P) (met : List (Met P)) (at place : ℕ) (order : List ℕ) (said : Option Move) → AreTraced moves met →
+    at < length met → ((m : Met P) → slice_get met at ≡ Some m → said ≡ m.by) → said ≡ None → LeadsBetween moves met at place order →
+    LeadsTo moves met place order
 from_first moves met at place order said traced within says is leads =
     let here : (m : _) × (slice_get met at ≡ Some m) = some_there met at within in
     let first : at ≡ 0 = subst (λ b. IsTraced moves met at here.0.position b) (sym (says here.0 here.1) ∙ is) (traced at here.0 here.1) in
@@ -381,4 +442,5 @@ from_first moves met at place order said traced within says is leads =
 
 -- a place stays a place
 pub still_within : {P : Type 0} (old new : List (Met P)) (place : ℕ) → Keeps old new → place < length old → place < length new
-still_within old new place kept within = let here : (m : _) × (slice_get old place ≡ Some m) = some_there old place within in slice_get_within new place here.0 (kept place here.0 here.1)
+still_within old new place kept within = let here : (m : _) × (slice_get old place ≡ Some m) = some_there old place within in
+    slice_get_within new place here.0 (kept place here.0 here.1)

@@ -23,22 +23,28 @@ same_ok : (r : Result Setup Unready) (x y : Setup) → r ≡ Ok x → r ≡ Ok y
 same_ok r x y first second = grind (arith, first, second)
 
 -- one record more
-one_record : (bounds : Bounds) (s : Setup) (r : Record) (world : World) → step bounds s.world r.actor r.act ≡ Some (record { world = world; outcome = r.outcome }) → IsRun bounds s → IsRun bounds (record { world = world; records = s.records ++ r ∷ [] })
+one_record : (bounds : Bounds) (s : Setup) (r : Record) (world : World) → step bounds s.world r.actor r.act ≡ Some
+    (record { world = world; outcome = r.outcome }) → IsRun bounds s → IsRun bounds (record { world = world; records = s.records ++ r ∷ [] })
 one_record bounds s r world is run =
-    let there : step bounds (world_of bounds s.records) r.actor r.act ≡ Some (record { world = world; outcome = r.outcome }) = subst (λ w. step bounds w r.actor r.act ≡ Some (record { world = world; outcome = r.outcome })) run.leads is in
+    let there : step bounds (world_of bounds s.records) r.actor r.act ≡ Some (record { world = world; outcome = r.outcome }) =
+    subst (λ w. step bounds w r.actor r.act ≡ Some (record { world = world; outcome = r.outcome })) run.leads is in
     record {
       is_legal = legal_append bounds empty_world s.records (r ∷ []) run.is_legal (ap (option_map (λ (x : Stepped). x.outcome)) there, tt);
       leads = sym (world_append bounds empty_world s.records (r ∷ []) ∙ ap (λ o. option_map_or (λ (x : Stepped). x.world) o (world_of bounds s.records)) there);
     }
 
-ended_run : (bounds : Bounds) (s : Setup) (n : ℕ) (asked : ActorsAct) (world : World) (outcome : Outcome) (t : Setup) → step bounds s.world asked.actor asked.act ≡ Some (record { world = world; outcome = outcome }) → ended s n asked world outcome ≡ Ok t → IsRun bounds s → IsRun bounds t
+ended_run : (bounds : Bounds) (s : Setup) (n : ℕ) (asked : ActorsAct) (world : World) (outcome : Outcome) (t : Setup) →
+    step bounds s.world asked.actor asked.act ≡ Some (record { world = world; outcome = outcome }) → ended s n asked world outcome ≡ Ok t → IsRun bounds s →
+    IsRun bounds t
 ended_run bounds s n asked world (Replied reply) t is gives run =
     let r : Record = record { actor = asked.actor; act = asked.act; outcome = Replied reply } in
-    subst (λ x. IsRun bounds x) (same_ok (ended s n asked world (Replied reply)) (record { world = world; records = s.records ++ r ∷ [] }) t refl gives) (one_record bounds s r world is run)
+    subst (λ x. IsRun bounds x) (same_ok (ended s n asked world (Replied reply)) (record { world = world; records = s.records ++ r ∷ [] }) t refl gives)
+    (one_record bounds s r world is run)
 ended_run bounds s n asked world (ParkedAt moved) t is gives run = absurd (grind (arith, gives))
 ended_run bounds s n asked world (Part moved) t is gives run = absurd (grind (arith, gives))
 
-recorded_run : (bounds : Bounds) (s : Setup) (n : ℕ) (asked : ActorsAct) (o : Option Stepped) (t : Setup) → step bounds s.world asked.actor asked.act ≡ o → recorded s n asked o ≡ Ok t → IsRun bounds s → IsRun bounds t
+recorded_run : (bounds : Bounds) (s : Setup) (n : ℕ) (asked : ActorsAct) (o : Option Stepped) (t : Setup) → step bounds s.world asked.actor asked.act ≡ o →
+    recorded s n asked o ≡ Ok t → IsRun bounds s → IsRun bounds t
 recorded_run bounds s n asked None t is gives run = absurd (grind (arith, gives))
 recorded_run bounds s n asked (Some stepped) t is gives run = ended_run bounds s n asked stepped.world stepped.outcome t is gives run
 
@@ -60,5 +66,6 @@ set_up_run : (bounds : Bounds) (acts : List SetupAct) (t : Setup) → set_up bou
 set_up_run bounds acts t gives = run_from bounds nothing_yet acts t gives (record { is_legal = tt; leads = refl })
 
 -- when no act is left, what was set up is a history with its world
-pub run_after_all : (bounds : Bounds) (acts : List SetupAct) (s : Setup) (done : ℕ) → length acts ≤ done → set_up_from bounds s (drop done acts) ≡ set_up bounds acts → IsRun bounds s
+pub run_after_all : (bounds : Bounds) (acts : List SetupAct) (s : Setup) (done : ℕ) → length acts ≤ done →
+    set_up_from bounds s (drop done acts) ≡ set_up bounds acts → IsRun bounds s
 run_after_all bounds acts s done all is = set_up_run bounds acts s (sym is ∙ at_drop_all (λ rest. set_up_from bounds s rest) acts done all)

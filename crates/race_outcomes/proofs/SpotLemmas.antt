@@ -44,7 +44,8 @@ pub same_place : {X : Type 0} (old new : List X) → Extends old new → (k : �
 same_place old new more k within = ap (λ xs. slice_get xs k) more.1 ∙ get_front old more.0 k within
 
 pub within_still : {X : Type 0} (old new : List X) → Extends old new → (k : ℕ) → k < length old → k < length new
-within_still old new more k within = let here : (x : _) × (slice_get old k ≡ Some x) = some_there old k within in slice_get_within new k here.0 (stands_still old new more k here.0 here.1)
+within_still old new more k within = let here : (x : _) × (slice_get old k ≡ Some x) = some_there old k within in
+    slice_get_within new k here.0 (stands_still old new more k here.0 here.1)
 
 -- a value that has its place in a table stands there
 pub placed_there : {X : Type 0} (old new : List X) (x : X) (place : ℕ) → Places (λ y. y) old new x place → slice_get new place ≡ Some x
@@ -61,27 +62,32 @@ placed_more old new x place placed = elim placed [
 
 -- ---- positions whose places are there
 
-rows_still : (old new : List (List Outcome)) → Extends old new → (places : List ℕ) → ((k row : ℕ) → slice_get places k ≡ Some row → row < length old) → told_at new places ≡ told_at old places
+rows_still : (old new : List (List Outcome)) → Extends old new → (places : List ℕ) → ((k row : ℕ) → slice_get places k ≡ Some row → row < length old) →
+    told_at new places ≡ told_at old places
 rows_still old new more [] within = refl
 rows_still old new more (p ∷ ps) within =
     ap (λ row. or_none row ∷ told_at new ps) (same_place old new more p (within zero p refl))
     ∙ ap (λ rest. or_none (slice_get old p) ∷ rest) (rows_still old new more ps (λ k row at. within (suc k) row at))
 
-pub position_still : (worlds worlds2 : List World) (rows rows2 : List (List Outcome)) (spot : Spot) → Extends worlds worlds2 → Extends rows rows2 → IsWithin worlds rows spot → position_of worlds2 rows2 spot ≡ position_of worlds rows spot
+pub position_still : (worlds worlds2 : List World) (rows rows2 : List (List Outcome)) (spot : Spot) → Extends worlds worlds2 → Extends rows rows2 →
+    IsWithin worlds rows spot → position_of worlds2 rows2 spot ≡ position_of worlds rows spot
 position_still worlds worlds2 rows rows2 spot more_worlds more_rows within =
     ap (λ w. record { world = or_empty w; told = told_at rows2 spot.rows }) (same_place worlds worlds2 more_worlds spot.world within.in_worlds)
     ∙ ap (λ told. record { world = or_empty (slice_get worlds spot.world); told = told }) (rows_still rows rows2 more_rows spot.rows within.in_rows)
 
-pub spot_still : (worlds worlds2 : List World) (rows rows2 : List (List Outcome)) (spot : Spot) → Extends worlds worlds2 → Extends rows rows2 → IsWithin worlds rows spot → IsWithin worlds2 rows2 spot
+pub spot_still : (worlds worlds2 : List World) (rows rows2 : List (List Outcome)) (spot : Spot) → Extends worlds worlds2 → Extends rows rows2 →
+    IsWithin worlds rows spot → IsWithin worlds2 rows2 spot
 spot_still worlds worlds2 rows rows2 spot more_worlds more_rows within = record {
   in_worlds = within_still worlds worlds2 more_worlds spot.world within.in_worlds;
   in_rows = λ k row at. within_still rows rows2 more_rows row (within.in_rows k row at);
 }
 
-pub positions_still : (worlds worlds2 : List World) (rows rows2 : List (List Outcome)) → Extends worlds worlds2 → Extends rows rows2 → (met : List (Met Spot)) → ((k : ℕ) (m : Met Spot) → slice_get met k ≡ Some m → IsWithin worlds rows m.position) → positions worlds2 rows2 met ≡ positions worlds rows met
+pub positions_still : (worlds worlds2 : List World) (rows rows2 : List (List Outcome)) → Extends worlds worlds2 → Extends rows rows2 → (met : List (Met Spot)) →
+    ((k : ℕ) (m : Met Spot) → slice_get met k ≡ Some m → IsWithin worlds rows m.position) → positions worlds2 rows2 met ≡ positions worlds rows met
 positions_still worlds worlds2 rows rows2 more_worlds more_rows [] within = refl
 positions_still worlds worlds2 rows rows2 more_worlds more_rows (m ∷ ms) within =
-    ap (λ p. record { position = p; by = m.by } ∷ positions worlds2 rows2 ms) (position_still worlds worlds2 rows rows2 m.position more_worlds more_rows (within zero m refl))
+    ap (λ p. record { position = p; by = m.by } ∷ positions worlds2 rows2 ms) (position_still worlds worlds2 rows rows2 m.position more_worlds more_rows
+    (within zero m refl))
     ∙ ap (λ rest. met_of worlds rows m ∷ rest) (positions_still worlds worlds2 rows rows2 more_worlds more_rows ms (λ k x at. within (suc k) x at))
 
 -- ---- ways
@@ -90,19 +96,24 @@ way_still : (bounds : Bounds) (lanes : List Lane) (old new : List World) (way : 
 way_still bounds lanes old new way more is = record {
   within = within_still old new more way.turn.world is.within;
   target = target_still old new more way.to is.target;
-  leads = subst (λ w. LeadsBy bounds lanes w way.turn (λ told row. option_map (λ to. led new told way.turn.lane row to) way.to)) (ap or_empty (sym (same_place old new more way.turn.world is.within)))
+  leads = subst (λ w. LeadsBy bounds lanes w way.turn (λ told row. option_map (λ to. led new told way.turn.lane row to) way.to))
+      (ap or_empty (sym (same_place old new more way.turn.world is.within)))
       (λ told row at long. is.leads told row at long ∙ sym (led_still old new more told way.turn.lane row way.to is.target));
 } where
   target_still : (old new : List World) → Extends old new → (to : Option Onward) → IfSome to (λ o. o.world < length old) → IfSome to (λ o. o.world < length new)
   target_still old new more None target = target
   target_still old new more (Some o) target = within_still old new more o.world target
 
-  led_still : (old new : List World) → Extends old new → (told : List (List Outcome)) (lane : ℕ) (row : List Outcome) (to : Option Onward) → IfSome to (λ o. o.world < length old) → option_map (λ o. led new told lane row o) to ≡ option_map (λ o. led old told lane row o) to
+  led_still : (old new : List World) → Extends old new → (told : List (List Outcome)) (lane : ℕ) (row : List Outcome) (to : Option Onward) →
+      IfSome to (λ o. o.world < length old) → option_map (λ o. led new told lane row o) to ≡ option_map (λ o. led old told lane row o) to
   led_still old new more told lane row None target = refl
-  led_still old new more told lane row (Some o) target = ap (λ w. Some (record { world = or_empty w; told = slice_set told lane (answered o.resumes row o.outcome) })) (same_place old new more o.world target)
+  led_still old new more told lane row (Some o) target =
+      ap (λ w. Some (record { world = or_empty w; told = slice_set told lane (answered o.resumes row o.outcome) })) (same_place old new more o.world target)
 
 -- what the next act of a lane comes to
-pub goes_so : (bounds : Bounds) (lanes : List Lane) (worlds : List World) (turn : Turn) (w : World) (lane : Lane) (going : Option Going) → slice_get worlds turn.world ≡ Some w → slice_get lanes turn.lane ≡ Some lane → going ≡ going_on bounds w lane turn.begun → GoesOn bounds lanes worlds turn going
+pub goes_so : (bounds : Bounds) (lanes : List Lane) (worlds : List World) (turn : Turn) (w : World) (lane : Lane) (going : Option Going) →
+    slice_get worlds turn.world ≡ Some w → slice_get lanes turn.lane ≡ Some lane → going ≡ going_on bounds w lane turn.begun →
+    GoesOn bounds lanes worlds turn going
 goes_so bounds lanes worlds turn w lane going at_world at_lane is = λ told row at long.
     let from : Position = record { world = or_empty (slice_get worlds turn.world); told = told } in
     ap (λ l. move_on bounds from turn.lane l (slice_get told turn.lane)) at_lane
@@ -111,11 +122,14 @@ goes_so bounds lanes worlds turn w lane going at_world at_lane is = λ told row 
     ∙ ap (λ x. option_map (moved told turn.lane row) (going_on bounds (or_empty x) lane turn.begun)) at_world
     ∙ ap (option_map (λ g. moved told turn.lane row g)) (sym is)
 
-pub goes_nowhere : (bounds : Bounds) (lanes : List Lane) (worlds : List World) (turn : Turn) → slice_get lanes turn.lane ≡ None → GoesOn bounds lanes worlds turn None
-goes_nowhere bounds lanes worlds turn none = λ told row at long. ap (λ l. move_on bounds (record { world = or_empty (slice_get worlds turn.world); told = told }) turn.lane l (slice_get told turn.lane)) none
+pub goes_nowhere : (bounds : Bounds) (lanes : List Lane) (worlds : List World) (turn : Turn) → slice_get lanes turn.lane ≡ None →
+    GoesOn bounds lanes worlds turn None
+goes_nowhere bounds lanes worlds turn none = λ told row at long. ap
+    (λ l. move_on bounds (record { world = or_empty (slice_get worlds turn.world); told = told }) turn.lane l (slice_get told turn.lane)) none
 
 -- what an act leads to is what it comes to
-named_leads : (old new : List World) (g : Going) (o : Onward) (told : List (List Outcome)) (lane : ℕ) (row : List Outcome) → o.resumes ≡ g.resumes → o.outcome ≡ g.outcome → slice_get new o.world ≡ Some g.world → moved told lane row g ≡ led new told lane row o
+named_leads : (old new : List World) (g : Going) (o : Onward) (told : List (List Outcome)) (lane : ℕ) (row : List Outcome) → o.resumes ≡ g.resumes →
+    o.outcome ≡ g.outcome → slice_get new o.world ≡ Some g.world → moved told lane row g ≡ led new told lane row o
 named_leads old new g o told lane row resumes outcome at =
     ap (λ w. record { world = or_empty w; told = slice_set told lane (answered g.resumes row g.outcome) }) (sym at)
     ∙ ap (λ r. record { world = or_empty (slice_get new o.world); told = slice_set told lane (answered r row g.outcome) }) (sym resumes)
@@ -127,16 +141,20 @@ names_more old new (Some g) to names = placed_more old new g.world names.onward.
 
 names_target : (old new : List World) (going : Option Going) (to : Option Onward) → Names old new going to → IfSome to (λ o. o.world < length new)
 names_target old new None to names = subst (λ t. IfSome t (λ o. o.world < length new)) (sym names.0) tt
-names_target old new (Some g) to names = subst (λ t. IfSome t (λ o. o.world < length new)) (sym names.is) (slice_get_within new names.onward.world g.world (placed_there old new g.world names.onward.world names.placed))
+names_target old new (Some g) to names = subst (λ t. IfSome t (λ o. o.world < length new)) (sym names.is)
+    (slice_get_within new names.onward.world g.world (placed_there old new g.world names.onward.world names.placed))
 
-names_leads : (old new : List World) (going : Option Going) (to : Option Onward) (told : List (List Outcome)) (lane : ℕ) (row : List Outcome) → Names old new going to → option_map (λ g. moved told lane row g) going ≡ option_map (λ o. led new told lane row o) to
+names_leads : (old new : List World) (going : Option Going) (to : Option Onward) (told : List (List Outcome)) (lane : ℕ) (row : List Outcome) →
+    Names old new going to → option_map (λ g. moved told lane row g) going ≡ option_map (λ o. led new told lane row o) to
 names_leads old new None to told lane row names = ap (λ t. option_map (λ o. led new told lane row o) t) (sym names.0)
 names_leads old new (Some g) to told lane row names =
     ap Some (named_leads old new g names.onward told lane row names.resumes names.outcome (placed_there old new g.world names.onward.world names.placed))
     ∙ ap (λ t. option_map (λ o. led new told lane row o) t) (sym names.is)
 
 -- an act that was made is noted
-pub learns : (bounds : Bounds) (lanes : List Lane) (old new : Search) (turn : Turn) (going : Option Going) (to : Option Onward) → turn.world < length old.worlds → GoesOn bounds lanes old.worlds turn going → Names old.worlds new.worlds going to → new.met ≡ old.met → new.rows ≡ old.rows → new.ways ≡ old.ways ++ record { turn = turn; to = to } ∷ [] → LearnsWay bounds lanes old new turn
+pub learns : (bounds : Bounds) (lanes : List Lane) (old new : Search) (turn : Turn) (going : Option Going) (to : Option Onward) →
+    turn.world < length old.worlds → GoesOn bounds lanes old.worlds turn going → Names old.worlds new.worlds going to → new.met ≡ old.met →
+    new.rows ≡ old.rows → new.ways ≡ old.ways ++ record { turn = turn; to = to } ∷ [] → LearnsWay bounds lanes old new turn
 learns bounds lanes old new turn going to within goes names met rows ways =
     let more : Extends old.worlds new.worlds = names_more old.worlds new.worlds going to names in
     record {
@@ -149,14 +167,17 @@ learns bounds lanes old new turn going to within goes names met rows ways =
       is = record {
         within = within_still old.worlds new.worlds more turn.world within;
         target = names_target old.worlds new.worlds going to names;
-        leads = subst (λ w. LeadsBy bounds lanes w turn (λ told row. option_map (λ o. led new.worlds told turn.lane row o) to)) (ap or_empty (sym (same_place old.worlds new.worlds more turn.world within)))
+        leads = subst (λ w. LeadsBy bounds lanes w turn (λ told row. option_map (λ o. led new.worlds told turn.lane row o) to))
+            (ap or_empty (sym (same_place old.worlds new.worlds more turn.world within)))
             (λ told row at long. goes told row at long ∙ names_leads old.worlds new.worlds going to told turn.lane row names);
       };
     }
 
-kept_after : (bounds : Bounds) (lanes : List Lane) (old new : Search) (turn : Turn) → IsKept bounds lanes old → LearnsWay bounds lanes old new turn → IsKept bounds lanes new
+kept_after : (bounds : Bounds) (lanes : List Lane) (old new : Search) (turn : Turn) → IsKept bounds lanes old → LearnsWay bounds lanes old new turn →
+    IsKept bounds lanes new
 kept_after bounds lanes old new turn kept learnt = record {
-  spots = λ k m at. spot_still old.worlds new.worlds old.rows new.rows m.position learnt.worlds (stays old.rows new.rows learnt.rows) (kept.spots k m (subst (λ met. slice_get met k ≡ Some m) learnt.met at));
+  spots = λ k m at. spot_still old.worlds new.worlds old.rows new.rows m.position learnt.worlds (stays old.rows new.rows learnt.rows)
+      (kept.spots k m (subst (λ met. slice_get met k ≡ Some m) learnt.met at));
   ways = λ k way at. elim (in_push old.ways learnt.way k way (subst (λ ways. slice_get ways k ≡ Some way) learnt.ways at)) [
     | inl before ↦ way_still bounds lanes old.worlds new.worlds way learnt.worlds (kept.ways k way before.1)
     | inr last ↦ subst (λ x. IsWay bounds lanes new.worlds x) (sym last.1) learnt.is
@@ -164,10 +185,18 @@ kept_after bounds lanes old new turn kept learnt = record {
 }
 
 -- an act that was made before is found, and else it is made
-pub finds_known : (bounds : Bounds) (lanes : List Lane) (search : Search) (turn : Turn) (place : ℕ) → IsKept bounds lanes search → StandsAt (λ (way : Way). way.turn) search.ways turn place → FindsWay bounds lanes search search turn place
-finds_known bounds lanes search turn place kept stands = record { met = refl; rows = refl; worlds = stays search.worlds search.worlds refl; kept = kept; stands = stands }
+pub finds_known : (bounds : Bounds) (lanes : List Lane) (search : Search) (turn : Turn) (place : ℕ) → IsKept bounds lanes search →
+    StandsAt (λ (way : Way). way.turn) search.ways turn place → FindsWay bounds lanes search search turn place
+finds_known bounds lanes search turn place kept stands = record {
+  met = refl;
+  rows = refl;
+  worlds = stays search.worlds search.worlds refl;
+  kept = kept;
+  stands = stands;
+}
 
-pub finds_new : (bounds : Bounds) (lanes : List Lane) (old new : Search) (turn : Turn) (place : ℕ) → IsKept bounds lanes old → LearnsWay bounds lanes old new turn → place ≡ length old.ways → FindsWay bounds lanes old new turn place
+pub finds_new : (bounds : Bounds) (lanes : List Lane) (old new : Search) (turn : Turn) (place : ℕ) → IsKept bounds lanes old →
+    LearnsWay bounds lanes old new turn → place ≡ length old.ways → FindsWay bounds lanes old new turn place
 finds_new bounds lanes old new turn place kept learnt is = record {
   met = learnt.met;
   rows = learnt.rows;
@@ -175,7 +204,8 @@ finds_new bounds lanes old new turn place kept learnt is = record {
   kept = kept_after bounds lanes old new turn kept learnt;
   stands = record {
     item = learnt.way;
-    stands = subst (λ k. slice_get new.ways k ≡ Some learnt.way) (sym is) (subst (λ ways. slice_get ways (length old.ways) ≡ Some learnt.way) (sym learnt.ways) (get_last old.ways learnt.way));
+    stands = subst (λ k. slice_get new.ways k ≡ Some learnt.way) (sym is) (subst (λ ways. slice_get ways (length old.ways) ≡ Some learnt.way) (sym learnt.ways)
+        (get_last old.ways learnt.way));
     is = learnt.is_turn;
   };
 }
@@ -189,16 +219,19 @@ set_cases (z ∷ zs) zero y (suc k) x at = inr at
 set_cases (z ∷ zs) (suc n) y zero x at = inr at
 set_cases (z ∷ zs) (suc n) y (suc k) x at = set_cases zs n y k x at
 
-told_there : (rows : List (List Outcome)) (places : List ℕ) (lane row : ℕ) (told : List Outcome) → slice_get places lane ≡ Some row → slice_get rows row ≡ Some told → slice_get (told_at rows places) lane ≡ Some told
+told_there : (rows : List (List Outcome)) (places : List ℕ) (lane row : ℕ) (told : List Outcome) → slice_get places lane ≡ Some row →
+    slice_get rows row ≡ Some told → slice_get (told_at rows places) lane ≡ Some told
 told_there rows places lane row told at there =
     slice_get-map (λ place. or_none (slice_get rows place)) places lane
     ∙ ap (option_map (λ place. or_none (slice_get rows place))) at
     ∙ ap (λ o. Some (or_none o)) there
 
 -- a lane without a row of answers does not move
-pub no_row : (bounds : Bounds) (lanes : List Lane) (worlds : List World) (rows : List (List Outcome)) (spot : Spot) (lane : ℕ) → slice_get spot.rows lane ≡ None → move bounds lanes (position_of worlds rows spot) lane ≡ None
+pub no_row : (bounds : Bounds) (lanes : List Lane) (worlds : List World) (rows : List (List Outcome)) (spot : Spot) (lane : ℕ) →
+    slice_get spot.rows lane ≡ None → move bounds lanes (position_of worlds rows spot) lane ≡ None
 no_row bounds lanes worlds rows spot lane none =
-    let nothing : slice_get (told_at rows spot.rows) lane ≡ None = slice_get-map (λ place. or_none (slice_get rows place)) spot.rows lane ∙ ap (option_map (λ place. or_none (slice_get rows place))) none in
+    let nothing : slice_get (told_at rows spot.rows) lane ≡ None = slice_get-map (λ place. or_none (slice_get rows place)) spot.rows lane ∙
+    ap (option_map (λ place. or_none (slice_get rows place))) none in
     nowhere (slice_get lanes lane) (slice_get (told_at rows spot.rows) lane) nothing
   where
     nowhere : (l : Option Lane) (told : Option (List Outcome)) → told ≡ None → move_on bounds (position_of worlds rows spot) lane l told ≡ None
@@ -206,13 +239,15 @@ no_row bounds lanes worlds rows spot lane none =
     nowhere (Some l) told is = ap (λ t. move_on bounds (position_of worlds rows spot) lane (Some l) t) is
 
 -- the places that a position names which was met
-pub copied_within : (bounds : Bounds) (lanes : List Lane) (search : Search) (place : ℕ) (spot : Spot) → IsKept bounds lanes search → place < length search.met → ((m : Met Spot) → slice_get search.met place ≡ Some m → spot ≡ m.position) → IsWithin search.worlds search.rows spot
+pub copied_within : (bounds : Bounds) (lanes : List Lane) (search : Search) (place : ℕ) (spot : Spot) → IsKept bounds lanes search → place < length search.met →
+    ((m : Met Spot) → slice_get search.met place ≡ Some m → spot ≡ m.position) → IsWithin search.worlds search.rows spot
 copied_within bounds lanes search place spot kept within is =
     let here : (m : _) × (slice_get search.met place ≡ Some m) = some_there search.met place within in
     subst (λ s. IsWithin search.worlds search.rows s) (sym (is here.0 here.1)) (kept.spots place here.0 here.1)
 
 -- a move that is not made
-pub stays_here : (bounds : Bounds) (lanes : List Lane) (search : Search) (by : Move) (spot : Spot) → IsKept bounds lanes search → ((m : Met Spot) → slice_get search.met by.from ≡ Some m → spot ≡ m.position) → slice_get spot.rows by.lane ≡ None → Moves bounds lanes search search by None
+pub stays_here : (bounds : Bounds) (lanes : List Lane) (search : Search) (by : Move) (spot : Spot) → IsKept bounds lanes search →
+    ((m : Met Spot) → slice_get search.met by.from ≡ Some m → spot ≡ m.position) → slice_get spot.rows by.lane ≡ None → Moves bounds lanes search search by None
 stays_here bounds lanes search by spot kept is none = record {
   met = refl;
   same = refl;
@@ -222,20 +257,30 @@ stays_here bounds lanes search by spot kept is none = record {
 }
 
 -- where the next act of a lane leads from a position
-leads_from : (bounds : Bounds) (lanes : List Lane) (old mid : Search) (spot : Spot) (turn : Turn) (place row : ℕ) (told : List Outcome) (way : Way) → IsWithin old.worlds old.rows spot → FindsWay bounds lanes old mid turn place → slice_get mid.ways place ≡ Some way → turn.world ≡ spot.world → turn.begun ≡ length told → slice_get spot.rows turn.lane ≡ Some row → slice_get old.rows row ≡ Some told → move bounds lanes (position_of old.worlds old.rows spot) turn.lane ≡ option_map (λ to. led mid.worlds (told_at old.rows spot.rows) turn.lane told to) way.to
+leads_from : (bounds : Bounds) (lanes : List Lane) (old mid : Search) (spot : Spot) (turn : Turn) (place row : ℕ) (told : List Outcome) (way : Way) →
+    IsWithin old.worlds old.rows spot → FindsWay bounds lanes old mid turn place → slice_get mid.ways place ≡ Some way → turn.world ≡ spot.world →
+    turn.begun ≡ length told → slice_get spot.rows turn.lane ≡ Some row → slice_get old.rows row ≡ Some told →
+    move bounds lanes (position_of old.worlds old.rows spot) turn.lane ≡ option_map (λ to. led mid.worlds (told_at old.rows spot.rows) turn.lane told to) way.to
 leads_from bounds lanes old mid spot turn place row told way within finds at world begun at_row there =
-    let is_turn : way.turn ≡ turn = ap (λ (w : Way). w.turn) (same_some (slice_get mid.ways place) way finds.stands.item at finds.stands.stands) ∙ finds.stands.is in
+    let is_turn : way.turn ≡ turn = ap (λ (w : Way). w.turn) (same_some (slice_get mid.ways place) way finds.stands.item at finds.stands.stands) ∙
+    finds.stands.is in
     let is : LeadsBy bounds lanes (or_empty (slice_get mid.worlds turn.world)) turn (λ all one. option_map (λ to. led mid.worlds all turn.lane one to) way.to) =
-    subst (λ t. LeadsBy bounds lanes (or_empty (slice_get mid.worlds t.world)) t (λ all one. option_map (λ to. led mid.worlds all t.lane one to) way.to)) is_turn (finds.kept.ways place way at).leads in
-    let same : slice_get old.worlds spot.world ≡ slice_get mid.worlds turn.world = sym (same_place old.worlds mid.worlds finds.worlds spot.world within.in_worlds) ∙ ap (λ k. slice_get mid.worlds k) (sym world) in
+    subst (λ t. LeadsBy bounds lanes (or_empty (slice_get mid.worlds t.world)) t (λ all one. option_map (λ to. led mid.worlds all t.lane one to) way.to))
+    is_turn (finds.kept.ways place way at).leads in
+    let same : slice_get old.worlds spot.world ≡ slice_get mid.worlds turn.world =
+    sym (same_place old.worlds mid.worlds finds.worlds spot.world within.in_worlds) ∙ ap (λ k. slice_get mid.worlds k) (sym world) in
     ap (λ w. move bounds lanes (record { world = or_empty w; told = told_at old.rows spot.rows }) turn.lane) same
     ∙ is (told_at old.rows spot.rows) told (told_there old.rows spot.rows turn.lane row told at_row there) (sym begun)
 
 -- a lane that cannot make its next act does not move
-pub cannot_move : (bounds : Bounds) (lanes : List Lane) (old mid : Search) (by : Move) (spot : Spot) (turn : Turn) (place row : ℕ) (told : List Outcome) (way : Way) → IsKept bounds lanes old → by.from < length old.met → ((m : Met Spot) → slice_get old.met by.from ≡ Some m → spot ≡ m.position) → FindsWay bounds lanes old mid turn place → slice_get mid.ways place ≡ Some way → turn ≡ record { world = spot.world; lane = by.lane; begun = length told } → slice_get spot.rows by.lane ≡ Some row → slice_get old.rows row ≡ Some told → way.to ≡ None → Moves bounds lanes old mid by None
+pub cannot_move : (bounds : Bounds) (lanes : List Lane) (old mid : Search) (by : Move) (spot : Spot) (turn : Turn) (place row : ℕ) (told : List Outcome)
+    (way : Way) → IsKept bounds lanes old → by.from < length old.met → ((m : Met Spot) → slice_get old.met by.from ≡ Some m → spot ≡ m.position) →
+    FindsWay bounds lanes old mid turn place → slice_get mid.ways place ≡ Some way → turn ≡ record { world = spot.world; lane = by.lane; begun = length told } →
+    slice_get spot.rows by.lane ≡ Some row → slice_get old.rows row ≡ Some told → way.to ≡ None → Moves bounds lanes old mid by None
 cannot_move bounds lanes old mid by spot turn place row told way kept there_from is finds at is_turn at_row there none = record {
   met = finds.met;
-  same = ap (λ met. positions mid.worlds mid.rows met) finds.met ∙ positions_still old.worlds mid.worlds old.rows mid.rows finds.worlds (stays old.rows mid.rows finds.rows) old.met kept.spots;
+  same = ap (λ met. positions mid.worlds mid.rows met) finds.met ∙ positions_still old.worlds mid.worlds old.rows mid.rows finds.worlds
+      (stays old.rows mid.rows finds.rows) old.met kept.spots;
   kept = finds.kept;
   goes = λ from at_from.
       let here : spot ≡ from.position = is from at_from in
@@ -243,7 +288,8 @@ cannot_move bounds lanes old mid by spot turn place row told way kept there_from
       let lane_is : turn.lane ≡ by.lane = ap (λ (t : Turn). t.lane) is_turn in
       subst (λ s. move bounds lanes (position_of old.worlds old.rows s) by.lane ≡ None) here (
       subst (λ l. move bounds lanes (position_of old.worlds old.rows spot) l ≡ None) lane_is (
-      leads_from bounds lanes old mid spot turn place row told way within finds at (ap (λ (t : Turn). t.world) is_turn) (ap (λ (t : Turn). t.begun) is_turn) (subst (λ l. slice_get spot.rows l ≡ Some row) (sym lane_is) at_row) there
+      leads_from bounds lanes old mid spot turn place row told way within finds at (ap (λ (t : Turn). t.world) is_turn) (ap (λ (t : Turn). t.begun) is_turn)
+      (subst (λ l. slice_get spot.rows l ≡ Some row) (sym lane_is) at_row) there
       ∙ ap (λ t. option_map (λ to. led mid.worlds (told_at old.rows spot.rows) turn.lane told to) t) none
       )
       );
@@ -251,7 +297,12 @@ cannot_move bounds lanes old mid by spot turn place row told way kept there_from
 }
 
 -- a lane makes its next act
-pub can_move : (bounds : Bounds) (lanes : List Lane) (old mid new : Search) (by : Move) (spot to_spot : Spot) (turn : Turn) (place row : ℕ) (told : List Outcome) (way : Way) (to : Onward) → IsKept bounds lanes old → by.from < length old.met → ((m : Met Spot) → slice_get old.met by.from ≡ Some m → spot ≡ m.position) → FindsWay bounds lanes old mid turn place → slice_get mid.ways place ≡ Some way → turn ≡ record { world = spot.world; lane = by.lane; begun = length told } → slice_get spot.rows by.lane ≡ Some row → slice_get old.rows row ≡ Some told → way.to ≡ Some to → new.worlds ≡ mid.worlds → new.ways ≡ mid.ways → new.met ≡ mid.met → GoesTo mid.rows new.rows spot by.lane row to to_spot → Moves bounds lanes old new by (Some to_spot)
+pub can_move : (bounds : Bounds) (lanes : List Lane) (old mid new : Search) (by : Move) (spot to_spot : Spot) (turn : Turn) (place row : ℕ)
+    (told : List Outcome) (way : Way) (to : Onward) → IsKept bounds lanes old → by.from < length old.met →
+    ((m : Met Spot) → slice_get old.met by.from ≡ Some m → spot ≡ m.position) → FindsWay bounds lanes old mid turn place → slice_get mid.ways place ≡ Some way →
+    turn ≡ record { world = spot.world; lane = by.lane; begun = length told } → slice_get spot.rows by.lane ≡ Some row → slice_get old.rows row ≡ Some told →
+    way.to ≡ Some to → new.worlds ≡ mid.worlds → new.ways ≡ mid.ways → new.met ≡ mid.met → GoesTo mid.rows new.rows spot by.lane row to to_spot →
+    Moves bounds lanes old new by (Some to_spot)
 can_move bounds lanes old mid new by spot to_spot turn place row told way to kept there_from is finds at is_turn at_row there some worlds ways met goes =
     let here : (m : _) × (slice_get old.met by.from ≡ Some m) = some_there old.met by.from there_from in
     let spot_is : spot ≡ here.0.position = is here.0 here.1 in
@@ -265,7 +316,8 @@ can_move bounds lanes old mid new by spot to_spot turn place row told way to kep
     let target : to.world < length mid.worlds = subst (λ t. IfSome t (λ o. o.world < length mid.worlds)) some (finds.kept.ways place way at).target in
     let leads : move bounds lanes (position_of old.worlds old.rows spot) by.lane ≡ Some (led mid.worlds (told_at old.rows spot.rows) by.lane told to) =
     subst (λ l. move bounds lanes (position_of old.worlds old.rows spot) l ≡ Some (led mid.worlds (told_at old.rows spot.rows) l told to)) lane_is (
-    leads_from bounds lanes old mid spot turn place row told way within finds at (ap (λ (t : Turn). t.world) is_turn) (ap (λ (t : Turn). t.begun) is_turn) (subst (λ l. slice_get spot.rows l ≡ Some row) (sym lane_is) at_row) there
+    leads_from bounds lanes old mid spot turn place row told way within finds at (ap (λ (t : Turn). t.world) is_turn) (ap (λ (t : Turn). t.begun) is_turn)
+    (subst (λ l. slice_get spot.rows l ≡ Some row) (sym lane_is) at_row) there
     ∙ ap (λ t. option_map (λ o. led mid.worlds (told_at old.rows spot.rows) turn.lane told o) t) some
     ) in
     let told_is : told_at new.rows to_spot.rows ≡ slice_set (told_at old.rows spot.rows) by.lane (answered to.resumes told to.outcome) =
@@ -281,12 +333,15 @@ can_move bounds lanes old mid new by spot to_spot turn place row told way to kep
     let met_is : new.met ≡ old.met = met ∙ finds.met in
     record {
       met = met_is;
-      same = ap (λ m. positions new.worlds new.rows m) met_is ∙ positions_still old.worlds new.worlds old.rows new.rows more_worlds more_rows old.met kept.spots;
+      same = ap (λ m. positions new.worlds new.rows m) met_is ∙ positions_still old.worlds new.worlds old.rows new.rows more_worlds more_rows old.met
+          kept.spots;
       kept = record {
-        spots = λ k m at_k. spot_still old.worlds new.worlds old.rows new.rows m.position more_worlds more_rows (kept.spots k m (subst (λ ms. slice_get ms k ≡ Some m) met_is at_k));
+        spots = λ k m at_k. spot_still old.worlds new.worlds old.rows new.rows m.position more_worlds more_rows
+            (kept.spots k m (subst (λ ms. slice_get ms k ≡ Some m) met_is at_k));
         ways = λ k w at_k. subst (λ ws. IsWay bounds lanes ws w) (sym worlds) (finds.kept.ways k w (subst (λ ws. slice_get ws k ≡ Some w) ways at_k));
       };
-      goes = λ from at_from. subst (λ s. move bounds lanes (position_of old.worlds old.rows s) by.lane ≡ Some (position_of new.worlds new.rows to_spot)) (is from at_from) (leads ∙ ap Some position_is);
+      goes = λ from at_from. subst (λ s. move bounds lanes (position_of old.worlds old.rows s) by.lane ≡ Some (position_of new.worlds new.rows to_spot))
+          (is from at_from) (leads ∙ ap Some position_is);
       within = record {
         in_worlds = subst (λ k. k < length new.worlds) (sym goes.world) (subst (λ ws. to.world < length ws) (sym worlds) target);
         in_rows = λ k r at_k. elim (set_cases spot.rows by.lane goes.place k r (subst (λ places. slice_get places k ≡ Some r) goes.rows at_k)) [
@@ -298,17 +353,20 @@ can_move bounds lanes old mid new by spot to_spot turn place row told way to kep
 
 -- ---- what is met
 
-met_there : (worlds : List World) (rows : List (List Outcome)) (met : List (Met Spot)) (k : ℕ) (m : Met Spot) → slice_get met k ≡ Some m → slice_get (positions worlds rows met) k ≡ Some (met_of worlds rows m)
+met_there : (worlds : List World) (rows : List (List Outcome)) (met : List (Met Spot)) (k : ℕ) (m : Met Spot) → slice_get met k ≡ Some m →
+    slice_get (positions worlds rows met) k ≡ Some (met_of worlds rows m)
 met_there worlds rows met k m at = slice_get-map (λ x. met_of worlds rows x) met k ∙ ap (option_map (λ x. met_of worlds rows x)) at
 
-met_push : (worlds : List World) (rows : List (List Outcome)) (met : List (Met Spot)) (m : Met Spot) → positions worlds rows (met ++ m ∷ []) ≡ positions worlds rows met ++ met_of worlds rows m ∷ []
+met_push : (worlds : List World) (rows : List (List Outcome)) (met : List (Met Spot)) (m : Met Spot) →
+    positions worlds rows (met ++ m ∷ []) ≡ positions worlds rows met ++ met_of worlds rows m ∷ []
 met_push worlds rows [] m = refl
 met_push worlds rows (x ∷ xs) m = ap (λ rest. met_of worlds rows x ∷ rest) (met_push worlds rows xs m)
 
 pub as_many : (worlds : List World) (rows : List (List Outcome)) (met : List (Met Spot)) → length (positions worlds rows met) ≡ length met
 as_many worlds rows met = length-map met (λ m. met_of worlds rows m)
 
-pub met_before : (most place : ℕ) (search : Search) (next : Met Spot) → StandsAt (λ (m : Met Spot). m.position) search.met next.position place → TakesIn most (met_in search) (met_in search) (met_of search.worlds search.rows next)
+pub met_before : (most place : ℕ) (search : Search) (next : Met Spot) → StandsAt (λ (m : Met Spot). m.position) search.met next.position place →
+    TakesIn most (met_in search) (met_in search) (met_of search.worlds search.rows next)
 met_before most place search next stands = inl (
   refl,
   record {
@@ -319,7 +377,8 @@ met_before most place search next stands = inl (
   },
 )
 
-pub met_now : (most : ℕ) (old new : Search) (next : Met Spot) → length old.met < most → TakesSpot old new next → new.met ≡ old.met ++ next ∷ [] → TakesIn most (met_in old) (met_in new) (met_of old.worlds old.rows next)
+pub met_now : (most : ℕ) (old new : Search) (next : Met Spot) → length old.met < most → TakesSpot old new next → new.met ≡ old.met ++ next ∷ [] →
+    TakesIn most (met_in old) (met_in new) (met_of old.worlds old.rows next)
 met_now most old new next room takes is = inr (
   ap (λ ws. positions ws new.rows new.met) takes.worlds
       ∙ ap (λ rs. positions old.worlds rs new.met) takes.rows
@@ -328,9 +387,12 @@ met_now most old new next room takes is = inr (
   subst (λ n. n < most) (sym (as_many old.worlds old.rows old.met)) room,
 )
 
-pub kept_with : (bounds : Bounds) (lanes : List Lane) (old new : Search) (next : Met Spot) → IsKept bounds lanes old → IsWithin old.worlds old.rows next.position → TakesSpot old new next → IsKept bounds lanes new
+pub kept_with : (bounds : Bounds) (lanes : List Lane) (old new : Search) (next : Met Spot) → IsKept bounds lanes old →
+    IsWithin old.worlds old.rows next.position → TakesSpot old new next → IsKept bounds lanes new
 kept_with bounds lanes old new next kept within takes =
-    let moved : (m : Met Spot) → IsWithin old.worlds old.rows m.position → IsWithin new.worlds new.rows m.position = λ m is. spot_still old.worlds new.worlds old.rows new.rows m.position (stays old.worlds new.worlds takes.worlds) (stays old.rows new.rows takes.rows) is in
+    let moved : (m : Met Spot) → IsWithin old.worlds old.rows m.position → IsWithin new.worlds new.rows m.position =
+    λ m is. spot_still old.worlds new.worlds old.rows new.rows m.position (stays old.worlds new.worlds takes.worlds)
+    (stays old.rows new.rows takes.rows) is in
     record {
       spots = λ k m at. elim takes.met [
         | inl same ↦ moved m (kept.spots k m (subst (λ ms. slice_get ms k ≡ Some m) same at))
@@ -344,26 +406,35 @@ kept_with bounds lanes old new next kept within takes =
 
 -- ---- a move, as the search of positions sees it
 
-from_there : (search : Search) (place : ℕ) (m : Met Spot) → slice_get search.met place ≡ Some m → slice_get (met_in search) place ≡ Some (met_of search.worlds search.rows m)
+from_there : (search : Search) (place : ℕ) (m : Met Spot) → slice_get search.met place ≡ Some m →
+    slice_get (met_in search) place ≡ Some (met_of search.worlds search.rows m)
 from_there search place m at = met_there search.worlds search.rows search.met place m at
 
-pub takes_move : (bounds : Bounds) (lanes : List Lane) (most : ℕ) (old mid new : Search) (by : Move) (to : Spot) → by.from < length old.met → Moves bounds lanes old mid by (Some to) → TakesIn most (met_in mid) (met_in new) (met_of mid.worlds mid.rows (record { position = to; by = Some by })) → TakesMove (move bounds lanes) most by.from by.lane (met_in old) (met_in new) true
+pub takes_move : (bounds : Bounds) (lanes : List Lane) (most : ℕ) (old mid new : Search) (by : Move) (to : Spot) → by.from < length old.met →
+    Moves bounds lanes old mid by (Some to) → TakesIn most (met_in mid) (met_in new) (met_of mid.worlds mid.rows (record { position = to; by = Some by })) →
+    TakesMove (move bounds lanes) most by.from by.lane (met_in old) (met_in new) true
 takes_move bounds lanes most old mid new by to within moves takes =
     let here : (m : _) × (slice_get old.met by.from ≡ Some m) = some_there old.met by.from within in
-    one_move (move bounds lanes) most by.from by.lane (met_in old) (met_in new) (met_of old.worlds old.rows here.0) (position_of mid.worlds mid.rows to) (from_there old by.from here.0 here.1) (moves.goes here.0 here.1)
+    one_move (move bounds lanes) most by.from by.lane (met_in old) (met_in new) (met_of old.worlds old.rows here.0) (position_of mid.worlds mid.rows to)
+    (from_there old by.from here.0 here.1) (moves.goes here.0 here.1)
     (subst (λ met. TakesIn most met (met_in new) (met_of mid.worlds mid.rows (record { position = to; by = Some by }))) moves.same takes)
 
-pub takes_none : (bounds : Bounds) (lanes : List Lane) (most : ℕ) (old mid : Search) (by : Move) → by.from < length old.met → Moves bounds lanes old mid by None → TakesMove (move bounds lanes) most by.from by.lane (met_in old) (met_in mid) false
+pub takes_none : (bounds : Bounds) (lanes : List Lane) (most : ℕ) (old mid : Search) (by : Move) → by.from < length old.met →
+    Moves bounds lanes old mid by None → TakesMove (move bounds lanes) most by.from by.lane (met_in old) (met_in mid) false
 takes_none bounds lanes most old mid by within moves =
     let here : (m : _) × (slice_get old.met by.from ≡ Some m) = some_there old.met by.from within in
     subst (λ met. TakesMove (move bounds lanes) most by.from by.lane (met_in old) met false) (sym moves.same)
-    (no_move (move bounds lanes) most by.from by.lane (met_in old) (met_of old.worlds old.rows here.0) (from_there old by.from here.0 here.1) (moves.goes here.0 here.1))
+    (no_move (move bounds lanes) most by.from by.lane (met_in old) (met_of old.worlds old.rows here.0) (from_there old by.from here.0 here.1)
+    (moves.goes here.0 here.1))
 
 -- there is no room for one more position
-pub takes_too_many : (bounds : Bounds) (lanes : List Lane) (most : ℕ) (old mid : Search) (by : Move) (to : Spot) → by.from < length old.met → Moves bounds lanes old mid by (Some to) → most ≤ length mid.met → (start : Position) → Searched (move bounds lanes) start most by.from by.lane (met_in old) → MoreOrders (move bounds lanes) start most
+pub takes_too_many : (bounds : Bounds) (lanes : List Lane) (most : ℕ) (old mid : Search) (by : Move) (to : Spot) → by.from < length old.met →
+    Moves bounds lanes old mid by (Some to) → most ≤ length mid.met → (start : Position) → Searched (move bounds lanes) start most by.from by.lane
+    (met_in old) → MoreOrders (move bounds lanes) start most
 takes_too_many bounds lanes most old mid by to within moves full start so_far =
     let here : (m : _) × (slice_get old.met by.from ≡ Some m) = some_there old.met by.from within in
-    more_orders (move bounds lanes) start most by.from by.lane (met_in old) (met_of old.worlds old.rows here.0) (position_of mid.worlds mid.rows to) (from_there old by.from here.0 here.1) (moves.goes here.0 here.1)
+    more_orders (move bounds lanes) start most by.from by.lane (met_in old) (met_of old.worlds old.rows here.0) (position_of mid.worlds mid.rows to)
+    (from_there old by.from here.0 here.1) (moves.goes here.0 here.1)
     (subst (λ n. most ≤ n) (sym (as_many old.worlds old.rows old.met)) (subst (λ met. most ≤ length met) moves.met full)) so_far
 
 -- ---- the begin
@@ -377,7 +448,8 @@ all_first zero k row at = none_some None row refl at
 all_first (suc lanes) zero row at = omega (arith, same_some (Some 0) row 0 at refl)
 all_first (suc lanes) (suc k) row at = all_first lanes k row at
 
-pub begins_kept : (bounds : Bounds) (lanes : List Lane) (world : World) (search : Search) → search.worlds ≡ world ∷ [] → search.rows ≡ [] ∷ [] → search.ways ≡ [] → search.met ≡ record { position = record { world = 0; rows = replicate (length lanes) 0 }; by = None } ∷ [] → IsKept bounds lanes search
+pub begins_kept : (bounds : Bounds) (lanes : List Lane) (world : World) (search : Search) → search.worlds ≡ world ∷ [] → search.rows ≡ [] ∷ [] →
+    search.ways ≡ [] → search.met ≡ record { position = record { world = 0; rows = replicate (length lanes) 0 }; by = None } ∷ [] → IsKept bounds lanes search
 begins_kept bounds lanes world search worlds rows ways met =
     let first : Met Spot = record { position = record { world = 0; rows = replicate (length lanes) 0 }; by = None } in
     record {
@@ -391,7 +463,9 @@ begins_kept bounds lanes world search worlds rows ways met =
       ways = λ k way at. none_some (slice_get [] k) way refl (subst (λ ws. slice_get ws k ≡ Some way) ways at);
     }
 
-pub begins_so : (lanes : List Lane) (world : World) (search : Search) → search.worlds ≡ world ∷ [] → search.rows ≡ [] ∷ [] → search.met ≡ record { position = record { world = 0; rows = replicate (length lanes) 0 }; by = None } ∷ [] → met_in search ≡ record { position = record { world = world; told = replicate (length lanes) [] }; by = None } ∷ []
+pub begins_so : (lanes : List Lane) (world : World) (search : Search) → search.worlds ≡ world ∷ [] → search.rows ≡ [] ∷ [] →
+    search.met ≡ record { position = record { world = 0; rows = replicate (length lanes) 0 }; by = None } ∷ [] →
+    met_in search ≡ record { position = record { world = world; told = replicate (length lanes) [] }; by = None } ∷ []
 begins_so lanes world search worlds rows met =
     ap (λ ws. positions ws search.rows search.met) worlds
     ∙ ap (λ rs. positions (world ∷ []) rs search.met) rows

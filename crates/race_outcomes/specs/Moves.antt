@@ -32,7 +32,8 @@ going_by bounds w actor resumes (Some act) = option_map (going resumes act) (ste
 
 -- what the next act of a lane comes to that has begun so many of its calls
 abbrev pub going_on : Bounds → World → Lane → ℕ → Option Going
-going_on bounds w lane begun = going_by bounds w lane.actor (is_parked (slot w.processes lane.actor)) (next_at (is_parked (slot w.processes lane.actor)) lane begun)
+going_on bounds w lane begun = going_by bounds w lane.actor (is_parked (slot w.processes lane.actor))
+    (next_at (is_parked (slot w.processes lane.actor)) lane begun)
 
 -- the outcomes of a lane's calls after one more act: a call adds one, and what goes on with a call tells a new one of it
 abbrev pub answered : Bool → List Outcome → Outcome → List Outcome

@@ -41,7 +41,15 @@ asked_in w scripts.CloseRun = None
 
 -- what was set up after the act of line n, of which this comes: it has to end
 abbrev pub ended : Setup → ℕ → ActorsAct → World → Outcome → Result Setup Unready
-ended s n asked world (Replied reply) = Ok (record { world = world; records = s.records ++ record { actor = asked.actor; act = asked.act; outcome = Replied reply } ∷ [] })
+ended s n asked world (Replied reply) = Ok (record {
+  world = world;
+  records = s.records ++ record {
+    actor = asked.actor;
+    act = asked.act;
+    outcome =
+        Replied reply;
+  } ∷ [];
+})
 ended s n asked world other = Err (unready.Waits n)
 
 -- the same, where it is known whether the rules record the act

@@ -27,7 +27,8 @@ record_of bounds lanes from number = record_on bounds from.world (slice_get lane
 -- the records of these moves, one after another, from a position on; the first that cannot be made has none, and ends them
 abbrev pub records_along : Bounds → List Lane → Position → List ℕ → List Record
 records_along bounds lanes from [] = []
-records_along bounds lanes from (n ∷ ns) = option_to_list (record_of bounds lanes from n) ++ option_map_or (λ to. records_along bounds lanes to ns) (move bounds lanes from n) []
+records_along bounds lanes from (n ∷ ns) = option_to_list (record_of bounds lanes from n) ++ option_map_or (λ to. records_along bounds lanes to ns)
+    (move bounds lanes from n) []
 
 -- each move of an order has its record, the records are what the model gives from a world on, and lead from it to another
 pub record IsWitness (bounds : Bounds) (w : World) (order : List ℕ) (end : World) (records : List Record) : Type 0 where

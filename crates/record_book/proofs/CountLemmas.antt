@@ -55,14 +55,23 @@ pub record IsMore (old new : BookState) (t t' : TalliesState) (r : Record) (byte
   pub closing : closed_as new + seats_of r.act ≤ closed_as old + 1
 
 pub counts_on : (old new : BookState) (t t' : TalliesState) (house after : Option Counted) (r : Record) (bytes_in bytes_out : ℕ)
-    → IsCounted old t house → IsMore old new t t' r bytes_in bytes_out → after ≡ option_map (λ receipts. only_records (length receipts)) new.house → IsCounted new t' after
+    → IsCounted old t house → IsMore old new t t' r bytes_in bytes_out → after ≡ option_map (λ receipts. only_records (length receipts)) new.house →
+    IsCounted new t' after
 counts_on old new t t' house after r bytes_in bytes_out is more house_is =
     let bounds = old.limits.bounds in
     let count : length new.history ≡ length old.history + 1 = ap length more.history ∙ length-append old.history (r ∷ []) in
     let pushed : seats_in new.history ≡ seats_in old.history + seats_of r.act = ap seats_in more.history ∙ seats_in-push old.history r in
     let seats : seats_given new ≡ seats_given old + seats_of r.act = omega (arith, pushed) in
     let counted : counted_in new ≡ counted_more bytes_in bytes_out (counted_in old) =
-    rw (more.history, more.limits, bytes_in-push bounds old.history r, bytes_out-push bounds old.history r, more.in_is, more.out_is, length-append old.history (r ∷ [])) refl in
+    rw (
+      more.history,
+      more.limits,
+      bytes_in-push bounds old.history r,
+      bytes_out-push bounds old.history r,
+      more.in_is,
+      more.out_is,
+      length-append old.history (r ∷ []),
+    ) refl in
     let in_more : t'.counted.bytes_in ≡ t.counted.bytes_in + bytes_in = ap (λ c. c.bytes_in) more.counted in
     let out_more : t'.counted.bytes_out ≡ t.counted.bytes_out + bytes_out = ap (λ c. c.bytes_out) more.counted in
     record {
@@ -74,13 +83,15 @@ counts_on old new t t' house after r bytes_in bytes_out is more house_is =
       few_out = omega (arith, out_more, more.few_out, is.few_out, count);
     }
 
-some_step : StepPlansProcesses → (bounds : Bounds) (w : World) (actor : ℕ) (a : Act) (o : Outcome) (s : Option Stepped) → step bounds w actor a ≡ s → option_map (λ s. s.outcome) s ≡ Some o
+some_step : StepPlansProcesses → (bounds : Bounds) (w : World) (actor : ℕ) (a : Act) (o : Outcome) (s : Option Stepped) → step bounds w actor a ≡ s →
+    option_map (λ s. s.outcome) s ≡ Some o
     → (option_map_or (λ s. s.world) s w).closed ≡ (closes a || w.closed)
 some_step planned bounds w actor a o None is e = cc
 some_step planned bounds w actor a o (Some s) is e = (planned bounds w actor a s is).closed
 
 -- whether a run is closed after one more record
-pub closed_after : StepPlansProcesses → (old new : BookState) (actor : ℕ) (a : Act) (receipt : Receipted) → Appends old new actor a receipt → (world_now new).closed ≡ (closes a || (world_now old).closed)
+pub closed_after : StepPlansProcesses → (old new : BookState) (actor : ℕ) (a : Act) (receipt : Receipted) → Appends old new actor a receipt →
+    (world_now new).closed ≡ (closes a || (world_now old).closed)
 closed_after planned old new actor a receipt is =
     let bounds = old.limits.bounds in
     let w = world_now old in
@@ -91,12 +102,15 @@ closed_after planned old new actor a receipt is =
     ap (λ (v : World). v.closed) now ∙ some_step planned bounds w actor a r.outcome (step bounds w actor a) refl is.outcome
 
 -- the same, of an act that does not close the run
-pub counts_appended : StepPlansProcesses → (old new : BookState) (t t' : TalliesState) (house : Option Counted) (actor : ℕ) (a : Act) (receipt : Receipted) (bytes_in bytes_out : ℕ)
+pub counts_appended : StepPlansProcesses → (old new : BookState) (t t' : TalliesState) (house : Option Counted) (actor : ℕ) (a : Act) (receipt : Receipted)
+    (bytes_in bytes_out : ℕ)
     → IsCounted old t house → Appends old new actor a receipt → closes a ≡ false → seats_of a ≤ 1
-    → bytes_in ≡ took (world_now old) receipt.record_is → bytes_out ≡ gave (world_now old) receipt.record_is → bytes_in ≤ GIVEN_BYTES_MAX → bytes_out ≤ GIVEN_BYTES_MAX
+    → bytes_in ≡ took (world_now old) receipt.record_is → bytes_out ≡ gave (world_now old) receipt.record_is → bytes_in ≤ GIVEN_BYTES_MAX →
+    bytes_out ≤ GIVEN_BYTES_MAX
     → t'.counted ≡ counted_more bytes_in bytes_out t.counted → t'.opened ≡ t.opened + seats_of a → IsCounted new t' house
 counts_appended planned old new t t' house actor a receipt bytes_in bytes_out is appends stays one in_is out_is few_in few_out counted opened =
-    let same : (world_now new).closed ≡ (world_now old).closed = closed_after planned old new actor a receipt appends ∙ ap (λ b. b || (world_now old).closed) stays in
+    let same : (world_now new).closed ≡ (world_now old).closed = closed_after planned old new actor a receipt appends ∙
+    ap (λ b. b || (world_now old).closed) stays in
     let flag : closed_as new ≡ closed_as old = ap (λ b. cond b 1 0) same in
     let seats : seats_of receipt.record_is.act ≡ seats_of a = ap seats_of appends.act_is in
     counts_on old new t t' house house receipt.record_is bytes_in bytes_out is (record {
@@ -117,16 +131,19 @@ one_left true n = omega arith
 one_left false n = omega arith
 
 -- before one more record there are shares for fewer than a million seats
-pub few_opened : StepPlansProcesses → (old new : BookState) (t : TalliesState) (house : Option Counted) (actor : ℕ) (a : Act) (receipt : Receipted) → IsCounted old t house
+pub few_opened : StepPlansProcesses → (old new : BookState) (t : TalliesState) (house : Option Counted) (actor : ℕ) (a : Act) (receipt : Receipted) →
+    IsCounted old t house
     → Appends old new actor a receipt → closes a ≡ false → length new.history + exits_left (world_now new) ≤ 1000000 → t.opened < 1000000
 few_opened planned old new t house actor a receipt is appends stays short =
-    let same : (world_now new).closed ≡ (world_now old).closed = closed_after planned old new actor a receipt appends ∙ ap (λ b. b || (world_now old).closed) stays in
+    let same : (world_now new).closed ≡ (world_now old).closed = closed_after planned old new actor a receipt appends ∙
+    ap (λ b. b || (world_now old).closed) stays in
     let flag : closed_as new ≡ closed_as old = ap (λ b. cond b 1 0) same in
     let count : length new.history ≡ length old.history + 1 = ap length appends.history ∙ length-append old.history (receipt.record_is ∷ []) in
     omega (arith, is.opened, is.few_seats, flag, count, short, one_left (world_now new).closed (live (world_now new).processes))
 
 -- the house of an open run has shares
-pub has_shares : (house : Option (List Receipted)) (shares : Option Counted) → shares ≡ option_map (λ receipts. only_records (length receipts)) house → is_some house ≡ true → shares ≡ None → ⊥
+pub has_shares : (house : Option (List Receipted)) (shares : Option Counted) → shares ≡ option_map (λ receipts. only_records (length receipts)) house →
+    is_some house ≡ true → shares ≡ None → ⊥
 has_shares None shares is there none = cc
 has_shares (Some rs) shares is there none = cc
 
@@ -134,7 +151,8 @@ same_shares : (a b : Counted) → Some a ≡ Some b → a ≡ b
 same_shares a b e = cc
 
 -- the shares of the house count one receipt more
-pub house_more : (place : ℕ) (r : Record) (house : Option (List Receipted)) (s t : Counted) → Some s ≡ option_map (λ receipts. only_records (length receipts)) house → t ≡ counted_more 0 0 s
+pub house_more : (place : ℕ) (r : Record) (house : Option (List Receipted)) (s t : Counted) →
+    Some s ≡ option_map (λ receipts. only_records (length receipts)) house → t ≡ counted_more 0 0 s
     → Some t ≡ option_map (λ receipts. only_records (length receipts)) (told_more place (r ∷ []) house)
 house_more place r None s t is more = cc
 house_more place r (Some rs) s t is more =
@@ -157,10 +175,12 @@ counts_orphan old new t t' p s s' is e tallied shared =
       counted = ap (λ x. x.counted) tallied;
       opened = let same : t'.opened ≡ t.opened = ap (λ x. x.opened) tallied in omega (arith, same);
       closing = omega (arith, flag);
-    }) (house_more (length old.history) (exit_record p) old.house s s' is.house_is shared ∙ ap (λ h. option_map (λ receipts. only_records (length receipts)) h) (sym e.house))
+    }) (house_more (length old.history) (exit_record p) old.house s s' is.house_is shared ∙ ap (λ h. option_map (λ receipts. only_records (length receipts)) h)
+    (sym e.house))
 
 -- so is the closing, after which the house has none any more
-pub counts_closing : (old new : BookState) (t t' : TalliesState) (s : Counted) (receipts : List Receipted) → IsCounted old t (Some s) → IsShutBy old new receipts
+pub counts_closing : (old new : BookState) (t t' : TalliesState) (s : Counted) (receipts : List Receipted) → IsCounted old t (Some s) →
+    IsShutBy old new receipts
     → t' ≡ record t { counted = counted_more 0 0 t.counted } → IsCounted new t' None
 counts_closing old new t t' s receipts is e tallied =
     let flag : closed_as new ≤ 1 = closed_at_most new in
@@ -177,9 +197,11 @@ counts_closing old new t t' s receipts is e tallied =
     }) (ap (λ h. option_map (λ receipts. only_records (length receipts)) h) (sym e.given_away))
 
 -- the house's seat counts a record for each receipt
-pub house_counts : (old new : BookState) (s t : Counted) (receipts : List Receipted) (tallies : TalliesState) → IsCounted old tallies (Some s) → IsShutBy old new receipts → t ≡ counted_more 0 0 s → t ≡ only_records (length receipts)
+pub house_counts : (old new : BookState) (s t : Counted) (receipts : List Receipted) (tallies : TalliesState) → IsCounted old tallies (Some s) →
+    IsShutBy old new receipts → t ≡ counted_more 0 0 s → t ≡ only_records (length receipts)
 house_counts old new s t receipts tallies is e more =
-    let all : Some t ≡ option_map (λ rs. only_records (length rs)) (told_more (length old.history) (closing_record ∷ []) old.house) = house_more (length old.history) closing_record old.house s t is.house_is more in
+    let all : Some t ≡ option_map (λ rs. only_records (length rs)) (told_more (length old.history) (closing_record ∷ []) old.house) =
+    house_more (length old.history) closing_record old.house s t is.house_is more in
     same_shares t _ (all ∙ ap (λ h. option_map (λ rs. only_records (length rs)) h) (sym e.receipts_are))
 
 -- the sums of the tallies are those of a run, of which the laws of pipes hold

@@ -60,7 +60,8 @@ exits_files : (w : World) (bytes : List ℕ) (e : FileEdit) → (with_files w by
 exits_files w bytes on_files.Nothing = refl
 exits_files w bytes other = refl
 
-exits_process : (w : World) (e : ProcessEdit) → ended_by e ≡ 0 → exits_from 0 (with_processes w e).processes ≡ with_prepared (prepared_for (length w.processes) e) (exits_from 0 w.processes)
+exits_process : (w : World) (e : ProcessEdit) → ended_by e ≡ 0 → exits_from 0 (with_processes w e).processes ≡ with_prepared
+    (prepared_for (length w.processes) e) (exits_from 0 w.processes)
 exits_process w on_process.Nothing none = refl
 exits_process w (on_process.Add table attached) none =
     let same : 0 + length w.processes ≡ length w.processes = omega arith in
@@ -78,7 +79,8 @@ exits_table w (on_table.Describe number edit) = refl
 exits_table w (on_table.Open process fd d) = exits_edited 0 w.processes process (with_entry fd (Some (length w.descriptions)))
 exits_table w (on_table.OpenPair process reading writing) =
     let u = with_description (with_pipe w) process reading (end_of (length w.pipes) mode.Read) in
-    exits_edited 0 u.processes process (with_entry writing (Some (length u.descriptions))) ∙ exits_edited 0 w.processes process (with_entry reading (Some (length w.descriptions)))
+    exits_edited 0 u.processes process (with_entry writing (Some (length u.descriptions))) ∙
+    exits_edited 0 w.processes process (with_entry reading (Some (length w.descriptions)))
 exits_table w (on_table.OpenEnd process fd file d) = exits_edited 0 w.processes process (with_entry fd (Some (length w.descriptions)))
 exits_table w (on_table.Entry process fd entry) = exits_edited 0 w.processes process (with_entry fd entry)
 
@@ -86,7 +88,8 @@ pub exits_changed : (w : World) (bytes : List ℕ) (c : Change) → ended_by c.p
     exits_from 0 (changed w bytes c).processes ≡ with_prepared (prepared_for (length w.processes) c.process) (exits_from 0 w.processes)
 exits_changed w bytes c none =
     let u = with_files w bytes c.files in
-    let P : List (Option Process) → Type 0 = λ ps. exits_from 0 (with_processes u c.process).processes ≡ with_prepared (prepared_for (length ps) c.process) (exits_from 0 ps) in
+    let P : List (Option Process) → Type 0 = λ ps. exits_from 0 (with_processes u c.process).processes ≡ with_prepared (prepared_for (length ps) c.process)
+    (exits_from 0 ps) in
     exits_table (with_processes u c.process) c.table ∙ subst P (exits_files w bytes c.files) (exits_process u c.process none)
 
 -- an edit makes a process exactly where one exit is prepared
@@ -100,7 +103,8 @@ room_less m k None less room = tt
 room_less m k (Some h) less room = omega (arith, less, room)
 
 -- where room for one exit more is made with each process, there is room for all
-pub house_grows : (old new : Option House) (live more : ℕ) (prepared : Option Record) → SameHouse old new → HasRoom live old → (is_some prepared ≡ true → HasRoom (live + 1) new) →
+pub house_grows : (old new : Option House) (live more : ℕ) (prepared : Option Record) → SameHouse old new → HasRoom live old →
+    (is_some prepared ≡ true → HasRoom (live + 1) new) →
     more ≡ cond (is_some prepared) 1 0 → HasRoom (live + more) new
 house_grows old new live more None same room made count = room_less live (live + more) new (omega (arith, count)) (same.room live room)
 house_grows old new live more (Some r) same room made count = room_less (live + 1) (live + more) new (omega (arith, count)) (made refl)
@@ -143,7 +147,8 @@ ahead_other ps n below other =
     let next : n + 1 ≡ suc n = omega arith in
     rw (next, drop_next ps n below, other) refl
 
-pub ahead_orphan : (ps : List (Option Process)) (n : ℕ) → n < length ps → awaits (slot ps n) ≡ true → exits_ahead n ps ≡ exit_record n ∷ exits_ahead (n + 1) (set ps n None)
+pub ahead_orphan : (ps : List (Option Process)) (n : ℕ) → n < length ps → awaits (slot ps n) ≡ true → exits_ahead n ps ≡ exit_record n ∷ exits_ahead (n + 1)
+    (set ps n None)
 ahead_orphan ps n below one =
     let next : n + 1 ≡ suc n = omega arith in
     rw (next, drop_next ps n below, one, drop_emptied ps n) refl
@@ -156,11 +161,14 @@ pub receipts_more : (place : ℕ) (xs ys : List Record) → receipts_from place 
 receipts_more place [] ys = let same : place + 0 ≡ place = omega arith in rw same refl
 receipts_more place (x ∷ xs) ys =
     let same : place + 1 + length xs ≡ place + suc (length xs) = omega arith in
-    ap (λ rs. record { place = place; record_is = x } ∷ rs) (receipts_more (place + 1) xs ys ∙ ap (λ n. receipts_from (place + 1) xs ++ receipts_from n ys) same)
+    ap (λ rs. record { place = place; record_is = x } ∷ rs) (receipts_more (place + 1) xs ys ∙
+    ap (λ n. receipts_from (place + 1) xs ++ receipts_from n ys) same)
 
-pub told_twice : (place : ℕ) (xs ys : List Record) (house : Option (List Receipted)) → told_more (place + length xs) ys (told_more place xs house) ≡ told_more place (xs ++ ys) house
+pub told_twice : (place : ℕ) (xs ys : List Record) (house : Option (List Receipted)) → told_more (place + length xs) ys (told_more place xs house)
+    ≡ told_more place (xs ++ ys) house
 told_twice place xs ys None = refl
-told_twice place xs ys (Some rs) = ap Some (append_assoc rs (receipts_from place xs) (receipts_from (place + length xs) ys) ∙ ap (λ more. rs ++ more) (sym (receipts_more place xs ys)))
+told_twice place xs ys (Some rs) = ap Some (append_assoc rs (receipts_from place xs) (receipts_from (place + length xs) ys) ∙
+    ap (λ more. rs ++ more) (sym (receipts_more place xs ys)))
 
 pub told_none : (place : ℕ) (house : Option (List Receipted)) → told_more place [] house ≡ house
 told_none place None = refl
@@ -179,5 +187,6 @@ ends_as_one a b c rs s first last =
       seen = last.seen;
       counts = last.counts;
       given_away = last.given_away;
-      receipts = last.receipts ∙ ap (λ n. told_more n rs b.house) place ∙ ap (λ house. told_more (length a.history + length xs) rs house) first.house ∙ told_twice (length a.history) xs rs a.house;
+      receipts = last.receipts ∙ ap (λ n. told_more n rs b.house) place ∙ ap (λ house. told_more (length a.history + length xs) rs house) first.house ∙
+          told_twice (length a.history) xs rs a.house;
     }

@@ -117,8 +117,10 @@ journal_ends b b' p book planned e =
       world = e.world ∙ ap (λ v. sweep (changed v [] (exit p).change)) book.world;
       capacity = e.capacity;
       exits = e.exits ∙ ap (λ es. set es p None) (book.exits ∙ ap (λ (v : World). exits_from 0 v.processes) book.world) ∙ sym (exits_emptied 0 w.processes p);
-      closing = e.closing ∙ book.closing ∙ ap prepared_closing book.world ∙ ap (λ b. cond b None (Some closing_record)) (sym (closed_same w next 1 (adds w act.Exit) false planned.counts refl));
-      house = e.house (live next.processes) (let same : live b.machine.world.processes ≡ live w.processes = ap (λ (v : World). live v.processes) book.world in omega (arith, planned.counts.living, same));
+      closing = e.closing ∙ book.closing ∙ ap prepared_closing book.world ∙ ap (λ b. cond b None (Some closing_record))
+          (sym (closed_same w next 1 (adds w act.Exit) false planned.counts refl));
+      house = e.house (live next.processes) (let same : live b.machine.world.processes ≡ live w.processes = ap (λ (v : World). live v.processes) book.world in
+          omega (arith, planned.counts.living, same));
     })
 
 -- a journal with the closing of its run

@@ -13,7 +13,8 @@ world_from-push bounds w [] r = refl
 world_from-push bounds w (x ∷ h) r = world_from-push bounds (after bounds w x) h r
 
 -- one more record that is the model's leaves a history legal
-pub legal_from-push : (bounds : Bounds) (w : World) (h : List Record) (r : Record) → legal_from bounds w h → option_map (λ s. s.outcome) (step bounds (world_from bounds w h) r.actor r.act) ≡ Some r.outcome → legal_from bounds w (h ++ r ∷ [])
+pub legal_from-push : (bounds : Bounds) (w : World) (h : List Record) (r : Record) → legal_from bounds w h →
+    option_map (λ s. s.outcome) (step bounds (world_from bounds w h) r.actor r.act) ≡ Some r.outcome → legal_from bounds w (h ++ r ∷ [])
 legal_from-push bounds w [] r is_legal e = (e, tt)
 legal_from-push bounds w (x ∷ h) r is_legal e = (is_legal.0, legal_from-push bounds (after bounds w x) h r is_legal.1 e)
 

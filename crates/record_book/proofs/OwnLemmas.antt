@@ -38,7 +38,8 @@ most_of w actor other told = omega arith
 
 -- one record more was counted, and its receipt is the last
 pub own_more : (c : Counted) (receipts : List Receipted) (w : World) (receipt : Receipted) (bytes_in bytes_out : ℕ)
-    → CountsOwn c receipts → bytes_in ≡ took w receipt.record_is → bytes_out ≡ gave w receipt.record_is → CountsOwn (counted_more bytes_in bytes_out c) (receipts ++ receipt ∷ [])
+    → CountsOwn c receipts → bytes_in ≡ took w receipt.record_is → bytes_out ≡ gave w receipt.record_is → CountsOwn (counted_more bytes_in bytes_out c)
+    (receipts ++ receipt ∷ [])
 own_more c receipts w receipt bytes_in bytes_out own took_is gave_is =
     let r = receipt.record_is in
     let least = least_of w r.actor r.act r.outcome in
@@ -83,7 +84,8 @@ own_quiet receipts c is quiet =
     }
 
 -- receipts that were quiet stay so with one that took and gave nothing
-pub quiet_more : (receipts more : List Receipted) (receipt : Receipted) → more ≡ receipts ++ receipt ∷ [] → AreQuiet receipts → most_taken_by receipt ≡ 0 → given_by receipt ≡ 0 → AreQuiet more
+pub quiet_more : (receipts more : List Receipted) (receipt : Receipted) → more ≡ receipts ++ receipt ∷ [] → AreQuiet receipts → most_taken_by receipt ≡ 0 →
+    given_by receipt ≡ 0 → AreQuiet more
 quiet_more receipts more receipt is quiet takes gives = rw is (record {
   take_none = let all = sum_by_push most_taken_by receipts receipt in omega (arith, quiet.take_none, all, takes);
   give_none = let all = sum_by_push given_by receipts receipt in omega (arith, quiet.give_none, all, gives);

@@ -30,13 +30,15 @@ pub exits_of : (w v : World) (more : ℕ) → Counts w v more 0 false → exits_
 exits_of w v more c = let living : live v.processes ≡ live w.processes + more = omega (arith, c.living) in rw (c.closed, living) refl
 
 -- the world after an act that comes to something
-pub after_step : (b : BookState) (actor : ℕ) (a : Act) (d : Decided) → comes_to b.limits.bounds (world_now b) actor a ≡ Some d → world_after b actor a ≡ (stepped (world_now b) (given a) d).world
+pub after_step : (b : BookState) (actor : ℕ) (a : Act) (d : Decided) → comes_to b.limits.bounds (world_now b) actor a ≡ Some d →
+    world_after b actor a ≡ (stepped (world_now b) (given a) d).world
 after_step b actor a d is = rw is refl
 
 -- after a call there are as many exits left as before it and as many more as it adds processes
 pub call_exits : StepPlansProcesses → (b : BookState) (p : ℕ) (c : Call) → can_call (slot (world_now b).processes p) ≡ true →
     exits_left (world_after b p (act.Call c)) ≡
-    cond (world_now b).closed (live (world_now b).processes + adds (world_now b) (act.Call c)) (live (world_now b).processes + adds (world_now b) (act.Call c) + 1)
+    cond (world_now b).closed (live (world_now b).processes + adds (world_now b) (act.Call c))
+    (live (world_now b).processes + adds (world_now b) (act.Call c) + 1)
 call_exits planned b p c may =
     let w = world_now b in
     let d = decided b.limits.bounds w p c in
@@ -44,7 +46,8 @@ call_exits planned b p c may =
     let v = (stepped w (given (act.Call c)) d).world in
     let P : World → Type 0 = λ u. exits_left u ≡ cond w.closed (live w.processes + adds w (act.Call c)) (live w.processes + adds w (act.Call c) + 1) in
     subst P (sym (after_step b p (act.Call c) d comes))
-    (exits_of w v (adds w (act.Call c)) (planned b.limits.bounds w p (act.Call c) (stepped w (given (act.Call c)) d) (ap (option_map (stepped w (given (act.Call c)))) comes)))
+    (exits_of w v (adds w (act.Call c)) (planned b.limits.bounds w p (act.Call c) (stepped w (given (act.Call c)) d)
+    (ap (option_map (stepped w (given (act.Call c)))) comes)))
 
 -- a join under the next number is a step
 pub join_comes : (b : BookState) → comes_to b.limits.bounds (world_now b) (length (world_now b).processes) act.Join ≡ Some (decided_by (join (world_now b)))
@@ -57,7 +60,8 @@ few_added w (act.Call call.Fork) = elim (is_full w) as (λ b. cond b 0 1 ≤ 1) 
 few_added w (act.Call other) = omega arith
 few_added w other = omega arith
 
-pub plans : ActsAreSound → StepPlansProcesses → HistoryIsWhole → StepIsShort → (b : BookState) (actor : ℕ) (a : Act) (d : Decided) → IsShort a → b.limits.bounds.file_size ≤ OFFSET_MAX →
+pub plans : ActsAreSound → StepPlansProcesses → HistoryIsWhole → StepIsShort → (b : BookState) (actor : ℕ) (a : Act) (d : Decided) → IsShort a →
+    b.limits.bounds.file_size ≤ OFFSET_MAX →
     comes_to b.limits.bounds (world_now b) actor a ≡ Some d → is_too_full b actor a ≡ false → IsPlanned b actor a d
 plans sound planned whole brief b actor a d short small is roomy =
     let w = world_now b in

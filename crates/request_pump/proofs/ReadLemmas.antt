@@ -30,10 +30,12 @@ calls_more gave.Failed old new e = ap (λ (log : LogState). log.calls) e
 none_read : (input : List ℕ) (decoder : DecoderState) (old new : List Request) → IsPumping input decoder old new → IsPumping (input ++ []) decoder old new
 none_read input decoder old new h = subst (λ (l : List ℕ). IsPumping l decoder old new) (sym (append-nil input)) h
 
-all_read : CutsDoNotMatter SpellsRequest 65792 → (input : List ℕ) (decoder : DecoderState) (old new : List Request) → IsPumping input decoder old new → HasPushedAll (input ++ []) old new
+all_read : CutsDoNotMatter SpellsRequest 65792 → (input : List ℕ) (decoder : DecoderState) (old new : List Request) → IsPumping input decoder old new →
+    HasPushedAll (input ++ []) old new
 all_read law input decoder old new h = pushed_all law (input ++ []) decoder old new (none_read input decoder old new h)
 
-may_read : (source : LoggedReaderState) (found : Option PumpEnd) → source.log.interruptions < INTERRUPTIONS_MAX → source.log.failed ≡ false → IsPieceEnd found → MayRead source found
+may_read : (source : LoggedReaderState) (found : Option PumpEnd) → source.log.interruptions < INTERRUPTIONS_MAX → source.log.failed ≡ false → IsPieceEnd found →
+    MayRead source found
 may_read source None few sound is = (few, sound)
 may_read source (Some end.Closed) few sound is = absurd is
 may_read source (Some end.ReadFault) few sound is = absurd is
@@ -41,17 +43,20 @@ may_read source (Some end.Malformed) few sound is = sound
 may_read source (Some end.NoMemory) few sound is = sound
 may_read source (Some end.Ahead) few sound is = sound
 
-pub bytes_read : (capacity : ℕ) (from to : LoggedReaderState) (buffer : List ℕ) (count : ℕ) (piece : List ℕ) (decoder after : DecoderState) (mid new : List Request) (found : Option PumpEnd) → from.log.failed ≡ false → ReadsOnce from to buffer (gave.Bytes count) → piece ≡ take count buffer
+pub bytes_read : (capacity : ℕ) (from to : LoggedReaderState) (buffer : List ℕ) (count : ℕ) (piece : List ℕ) (decoder after : DecoderState)
+    (mid new : List Request) (found : Option PumpEnd) → from.log.failed ≡ false → ReadsOnce from to buffer (gave.Bytes count) → piece ≡ take count buffer
     → PumpsPiece capacity piece decoder after mid new found → IsPieceEnd found → PumpsOn capacity from to decoder after mid new found
 bytes_read capacity from to buffer count piece decoder after mid new found sound h e goes is = record {
   piece = piece;
   consumes = subst (Consumes from.remaining to.remaining) (sym e) h.gives.consumes;
   calls = calls_more (gave.Bytes count) from.log to.log h.log;
-  may = may_read to found (subst (λ (n : ℕ). n < INTERRUPTIONS_MAX) (sym (ap (λ (log : LogState). log.interruptions) h.log)) (omega arith)) (ap (λ (log : LogState). log.failed) h.log ∙ sound) is;
+  may = may_read to found (subst (λ (n : ℕ). n < INTERRUPTIONS_MAX) (sym (ap (λ (log : LogState). log.interruptions) h.log)) (omega arith))
+      (ap (λ (log : LogState). log.failed) h.log ∙ sound) is;
   goes = goes;
 }
 
-pub nothing_read : CutsDoNotMatter SpellsRequest 65792 → (capacity : ℕ) (from to : LoggedReaderState) (buffer : List ℕ) (decoder : DecoderState) (mid : List Request) → from.log.failed ≡ false → ReadsOnce from to buffer gave.Nothing → PumpsOn capacity from to decoder decoder mid mid (Some end.Closed)
+pub nothing_read : CutsDoNotMatter SpellsRequest 65792 → (capacity : ℕ) (from to : LoggedReaderState) (buffer : List ℕ) (decoder : DecoderState)
+    (mid : List Request) → from.log.failed ≡ false → ReadsOnce from to buffer gave.Nothing → PumpsOn capacity from to decoder decoder mid mid (Some end.Closed)
 nothing_read law capacity from to buffer decoder mid sound h = record {
   piece = [];
   consumes = h.gives.0;
@@ -60,7 +65,8 @@ nothing_read law capacity from to buffer decoder mid sound h = record {
   goes = λ (input : List ℕ) (old : List Request) (p : IsPumping input decoder old mid). all_read law input decoder old mid p;
 }
 
-pub interrupted : (capacity : ℕ) (from to : LoggedReaderState) (buffer : List ℕ) (decoder : DecoderState) (mid : List Request) → from.log.failed ≡ false → ReadsOnce from to buffer gave.Interrupted → to.log.interruptions < INTERRUPTIONS_MAX → PumpsOn capacity from to decoder decoder mid mid None
+pub interrupted : (capacity : ℕ) (from to : LoggedReaderState) (buffer : List ℕ) (decoder : DecoderState) (mid : List Request) → from.log.failed ≡ false →
+    ReadsOnce from to buffer gave.Interrupted → to.log.interruptions < INTERRUPTIONS_MAX → PumpsOn capacity from to decoder decoder mid mid None
 interrupted capacity from to buffer decoder mid sound h few = record {
   piece = [];
   consumes = h.gives;
@@ -69,7 +75,8 @@ interrupted capacity from to buffer decoder mid sound h few = record {
   goes = λ (input : List ℕ) (old : List Request) (p : IsPumping input decoder old mid). none_read input decoder old mid p;
 }
 
-failed : CutsDoNotMatter SpellsRequest 65792 → (capacity : ℕ) (from to : LoggedReaderState) (decoder : DecoderState) (mid : List Request) → Consumes from.remaining to.remaining [] → to.log.calls ≡ one_more from.log.calls → IsReadNoMore READS_MAX to.log
+failed : CutsDoNotMatter SpellsRequest 65792 → (capacity : ℕ) (from to : LoggedReaderState) (decoder : DecoderState) (mid : List Request) →
+    Consumes from.remaining to.remaining [] → to.log.calls ≡ one_more from.log.calls → IsReadNoMore READS_MAX to.log
     → PumpsOn capacity from to decoder decoder mid mid (Some end.ReadFault)
 failed law capacity from to decoder mid none calls worn = record {
   piece = [];
@@ -79,12 +86,16 @@ failed law capacity from to decoder mid none calls worn = record {
   goes = λ (input : List ℕ) (old : List Request) (p : IsPumping input decoder old mid). all_read law input decoder old mid p;
 }
 
-pub interrupted_enough : CutsDoNotMatter SpellsRequest 65792 → (capacity : ℕ) (from to : LoggedReaderState) (buffer : List ℕ) (decoder : DecoderState) (mid : List Request) → ReadsOnce from to buffer gave.Interrupted → INTERRUPTIONS_MAX ≤ to.log.interruptions
+pub interrupted_enough : CutsDoNotMatter SpellsRequest 65792 → (capacity : ℕ) (from to : LoggedReaderState) (buffer : List ℕ) (decoder : DecoderState)
+    (mid : List Request) → ReadsOnce from to buffer gave.Interrupted → INTERRUPTIONS_MAX ≤ to.log.interruptions
     → PumpsOn capacity from to decoder decoder mid mid (Some end.ReadFault)
-interrupted_enough law capacity from to buffer decoder mid h enough = failed law capacity from to decoder mid h.gives (calls_more gave.Interrupted from.log to.log h.log) (inl (inr enough))
+interrupted_enough law capacity from to buffer decoder mid h enough = failed law capacity from to decoder mid h.gives
+    (calls_more gave.Interrupted from.log to.log h.log) (inl (inr enough))
 
-pub failed_read : CutsDoNotMatter SpellsRequest 65792 → (capacity : ℕ) (from to : LoggedReaderState) (buffer : List ℕ) (decoder : DecoderState) (mid : List Request) → ReadsOnce from to buffer gave.Failed → PumpsOn capacity from to decoder decoder mid mid (Some end.ReadFault)
-failed_read law capacity from to buffer decoder mid h = failed law capacity from to decoder mid h.gives (calls_more gave.Failed from.log to.log h.log) (inl (inl (ap (λ (log : LogState). log.failed) h.log)))
+pub failed_read : CutsDoNotMatter SpellsRequest 65792 → (capacity : ℕ) (from to : LoggedReaderState) (buffer : List ℕ) (decoder : DecoderState)
+    (mid : List Request) → ReadsOnce from to buffer gave.Failed → PumpsOn capacity from to decoder decoder mid mid (Some end.ReadFault)
+failed_read law capacity from to buffer decoder mid h = failed law capacity from to decoder mid h.gives (calls_more gave.Failed from.log to.log h.log)
+    (inl (inl (ap (λ (log : LogState). log.failed) h.log)))
 
 -- ---- one read after another
 
@@ -99,14 +110,16 @@ pumped_none source decoder old unfed = subst (λ (d : DecoderState). HasPumped s
   };
 })
 
-pub pumped_more : (capacity : ℕ) (from mid to : LoggedReaderState) (decoder after : DecoderState) (old now new : List Request) → HasPumped from mid decoder old now → PumpsOn capacity mid to decoder after now new None → HasPumped from to after old new
+pub pumped_more : (capacity : ℕ) (from mid to : LoggedReaderState) (decoder after : DecoderState) (old now new : List Request) →
+    HasPumped from mid decoder old now → PumpsOn capacity mid to decoder after now new None → HasPumped from to after old new
 pumped_more capacity from mid to decoder after old now new h k = record {
   input = h.input ++ k.piece;
   consumes = Consumes-trans from.remaining mid.remaining to.remaining h.input k.piece h.consumes k.consumes;
   pumping = k.goes h.input old h.pumping;
 }
 
-pub pumped_all : (capacity : ℕ) (from mid to : LoggedReaderState) (decoder after : DecoderState) (old now new : List Request) (found : PumpEnd) → HasPumped from mid decoder old now → PumpsOn capacity mid to decoder after now new (Some found)
+pub pumped_all : (capacity : ℕ) (from mid to : LoggedReaderState) (decoder after : DecoderState) (old now new : List Request) (found : PumpEnd) →
+    HasPumped from mid decoder old now → PumpsOn capacity mid to decoder after now new (Some found)
     → PumpsAll capacity from to old new found
 pumped_all capacity from mid to decoder after old now new found h k = record {
   input = h.input ++ k.piece;
@@ -116,8 +129,15 @@ pumped_all capacity from mid to decoder after old now new found h k = record {
 }
 
 -- the reader was read as often as it may be
-pub pumped_enough : CutsDoNotMatter SpellsRequest 65792 → (capacity : ℕ) (from to : LoggedReaderState) (decoder : DecoderState) (old now : List Request) → HasPumped from to decoder old now → IsReadNoMore READS_MAX to.log → PumpsAll capacity from to old now end.ReadFault
-pumped_enough law capacity from to decoder old now h worn = record { input = h.input; consumes = h.consumes; met = worn; pushed = pushed_all law h.input decoder old now h.pumping }
+pub pumped_enough : CutsDoNotMatter SpellsRequest 65792 → (capacity : ℕ) (from to : LoggedReaderState) (decoder : DecoderState) (old now : List Request) →
+    HasPumped from to decoder old now → IsReadNoMore READS_MAX to.log → PumpsAll capacity from to old now end.ReadFault
+pumped_enough law capacity from to decoder old now h worn = record {
+  input = h.input;
+  consumes = h.consumes;
+  met = worn;
+  pushed =
+      pushed_all law h.input decoder old now h.pumping;
+}
 
 -- ---- the turns of the loop
 

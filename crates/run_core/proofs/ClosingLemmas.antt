@@ -13,7 +13,8 @@ use Rattle.run_core.specs.declared.closing.CloseFault.TheVariants as fault
 use Rattle.run_core.specs.declared.report.RunFault.TheVariants as run_fault
 
 -- where all shares are there and not all places agree, the run is closed for that
-pub closes_for : (b : BookState) (seats : ℕ) (held : List Held) (why : Option TraceFault) (received : List Record) (records : ℕ) (least : Option ℕ) (closing : CloseFault)
+pub closes_for : (b : BookState) (seats : ℕ) (held : List Held) (why : Option TraceFault) (received : List Record) (records : ℕ) (least : Option ℕ)
+    (closing : CloseFault)
     → seats ≡ seats_given b → records ≡ length b.history
     → ((place : ℕ) → least ≡ Some place → IsLeast b.history held received place)
     → DiffersFor least why records received closing → ClosesFor b seats held why received closing
@@ -23,7 +24,8 @@ closes_for b seats held why received records least (fault.Disagree place) all ar
     (all, is_least place differs.0, λ torn. differs.1 (torn.0, rw are torn.1))
 
 -- where no share is missing and not all places agree, that is why the run is not reported
-pub unreported_for : (b : BookState) (seats : ℕ) (held : List Held) (why : Option TraceFault) (received : List Record) (records : ℕ) (least : Option ℕ) (closing : CloseFault)
+pub unreported_for : (b : BookState) (seats : ℕ) (held : List Held) (why : Option TraceFault) (received : List Record) (records : ℕ) (least : Option ℕ)
+    (closing : CloseFault)
     → seats_given b ≤ seats → records ≡ length b.history
     → ((place : ℕ) → least ≡ Some place → IsLeast b.history held received place)
     → DiffersFor least why records received closing → UnreportedFor b seats held why received (fault_of_closing closing)

@@ -77,15 +77,19 @@ of_seat : (seat : Option SeatState) → SeatFits seat → ActsFit (held_by (opti
 of_seat None h = tt
 of_seat (Some seat) h = h
 
-session_fits : ActsOfSeatsFit → (limits : Option Limits) (history : List Record) (always : Bool) (c : Connection) (s : ReportedSession) → ServesConnection limits history always c s → ActsFit (held_by s.process).receipts
+session_fits : ActsOfSeatsFit → (limits : Option Limits) (history : List Record) (always : Bool) (c : Connection) (s : ReportedSession) →
+    ServesConnection limits history always c s → ActsFit (held_by s.process).receipts
 session_fits acts_fit limits history always c s h =
-    subst (λ (process : Option Held). ActsFit (held_by process).receipts) (sym h.process_is) (of_seat c.seat (acts_fit always c.from c.base (with_seat c.seat s) h.serves.serves.serves))
+    subst (λ (process : Option Held). ActsFit (held_by process).receipts) (sym h.process_is)
+    (of_seat c.seat (acts_fit always c.from c.base (with_seat c.seat s) h.serves.serves.serves))
 
-sessions_fit : ActsOfSeatsFit → (limits : Option Limits) (history : List Record) (always : Bool) (cs : List Connection) (ss : List ReportedSession) → AllZip (ServesConnection limits history always) cs ss → AllFit (map (λ s. held_by s.process) ss)
+sessions_fit : ActsOfSeatsFit → (limits : Option Limits) (history : List Record) (always : Bool) (cs : List Connection) (ss : List ReportedSession) →
+    AllZip (ServesConnection limits history always) cs ss → AllFit (map (λ s. held_by s.process) ss)
 sessions_fit acts_fit limits history always [] [] h = tt
 sessions_fit acts_fit limits history always [] (s ∷ ss) h = absurd h
 sessions_fit acts_fit limits history always (c ∷ cs) [] h = absurd h
-sessions_fit acts_fit limits history always (c ∷ cs) (s ∷ ss) h = (session_fits acts_fit limits history always c s h.0, sessions_fit acts_fit limits history always cs ss h.1)
+sessions_fit acts_fit limits history always (c ∷ cs) (s ∷ ss) h =
+    (session_fits acts_fit limits history always c s h.0, sessions_fit acts_fit limits history always cs ss h.1)
 
 -- exits and the closing have no fields
 exits_fit : (place : ℕ) (processes : List ℕ) → ActsFit (receipts_from place (map exit_record processes ++ closing_record ∷ []))
@@ -113,7 +117,8 @@ each_fits acts_fit told h p below =
     let house = house_fits (length h.before.history) (world_now h.before) h.house.receipts h.closing.receipts_are in
     let held = map (λ (s : ReportedSession). held_by s.process) told.ends in
     let once = agrees.sound.covered ∙ one_wanted p (length h.book.history) below in
-    held_fits h.book.history p (held ++ held_in h.house ∷ []) (all_joined held (held_in h.house ∷ []) sessions (house, tt)) agrees.sound.good (omega (arith, once))
+    held_fits h.book.history p (held ++ held_in h.house ∷ []) (all_joined held (held_in h.house ∷ []) sessions (house, tt)) agrees.sound.good
+    (omega (arith, once))
 
 -- records of which each is in range
 all_in_range : (h : List Record) → ((p : ℕ) → IfSome (slice_get h p) IsInRange) → AllInRange h
@@ -163,7 +168,12 @@ last_have (r ∷ first) last have = last_have first last have.1
 none_unspelled : (h : List Record) → HaveFrames h → BeginsUnspelled h → ⊥
 none_unspelled [] have unspelled = unspelled
 none_unspelled (r ∷ h) have unspelled =
-    let one : IsFrame SpellsRecord RECORD_LENGTH_MAX r (frame (record_bytes r)) = record { payload = record_bytes r; few = have.0.1; spelled = (have.0.0, refl); is = refl } in
+    let one : IsFrame SpellsRecord RECORD_LENGTH_MAX r (frame (record_bytes r)) = record {
+      payload = record_bytes r;
+      few = have.0.1;
+      spelled = (have.0.0, refl);
+      is = refl;
+    } in
     unspelled (frame (record_bytes r)) one
 
 pub runs_spelled : ActsOfSeatsFit → LegalHaveFrames → RunsAreSpelled

@@ -22,11 +22,13 @@ one_along None process xs ys is same = rw is same
 one_along (Some seat) process xs ys is same = rw is (ap suc same)
 
 -- the seats of connections are as many as the processes of the sessions that served them
-seats_along : (limits : Option Limits) (h : List Record) (always : Bool) (cs : List Connection) (ss : List ReportedSession) → AllZip (ServesConnection limits h always) cs ss → length (counted_by cs) ≡ length (filter_map (λ (s : ReportedSession). s.process) ss)
+seats_along : (limits : Option Limits) (h : List Record) (always : Bool) (cs : List Connection) (ss : List ReportedSession) →
+    AllZip (ServesConnection limits h always) cs ss → length (counted_by cs) ≡ length (filter_map (λ (s : ReportedSession). s.process) ss)
 seats_along limits h always [] [] all = refl
 seats_along limits h always [] (s ∷ ss) all = absurd all
 seats_along limits h always (c ∷ cs) [] all = absurd all
-seats_along limits h always (c ∷ cs) (s ∷ ss) all = one_along c.seat s.process (counted_by cs) (filter_map (λ (s : ReportedSession). s.process) ss) all.0.process_is (seats_along limits h always cs ss all.1)
+seats_along limits h always (c ∷ cs) (s ∷ ss) all = one_along c.seat s.process (counted_by cs) (filter_map (λ (s : ReportedSession). s.process) ss)
+    all.0.process_is (seats_along limits h always cs ss all.1)
 
 -- what these sessions, their closing and their trace left
 pub left_is : (told : LeftTold) (why : RunFault) (limits : Option Limits) (lacked : Option Want) (shares : List Counted) → limits ≡ Some told.limits_are

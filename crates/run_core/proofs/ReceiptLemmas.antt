@@ -19,11 +19,13 @@ none_left h p [] none = tt
 none_left h p (s ∷ ss) none = absurd (omega (arith, none))
 
 -- one whose receipts are good, before good ones
-pub good_before : (h : List Record) (p : ℕ) (s : Held) (rest left : List Held) (pid : ℕ) (receipts : List Receipted) → left ≡ s ∷ rest → pid ≡ s.pid → receipts ≡ s.receipts → GoodFrom h pid p None receipts → GoodAt h p rest → GoodAt h p left
+pub good_before : (h : List Record) (p : ℕ) (s : Held) (rest left : List Held) (pid : ℕ) (receipts : List Receipted) → left ≡ s ∷ rest → pid ≡ s.pid →
+    receipts ≡ s.receipts → GoodFrom h pid p None receipts → GoodAt h p rest → GoodAt h p left
 good_before h p s rest left pid receipts is who given good others = rw is (rw (sym who, sym given) good, others)
 
 -- the first of good ones, and the others
-pub first_good : (h : List Record) (p : ℕ) (s : Held) (rest left : List Held) (pid : ℕ) (receipts : List Receipted) → left ≡ s ∷ rest → pid ≡ s.pid → receipts ≡ s.receipts → GoodAt h p left → GoodFrom h pid p None receipts × GoodAt h p rest
+pub first_good : (h : List Record) (p : ℕ) (s : Held) (rest left : List Held) (pid : ℕ) (receipts : List Receipted) → left ≡ s ∷ rest → pid ≡ s.pid →
+    receipts ≡ s.receipts → GoodAt h p left → GoodFrom h pid p None receipts × GoodAt h p rest
 first_good h p s rest left pid receipts is who given all =
     let parts = subst (λ seats. GoodAt h p seats) is all in
     (rw (who, given) parts.0, parts.1)
@@ -44,7 +46,8 @@ named_joined p [] ys = omega arith
 named_joined p (x ∷ xs) ys = let others = named_joined p xs ys in omega (arith, others)
 
 -- the lowest of two places of which neither holds
-pub neither_holds : (one other result : Option ℕ) (P Q R N : ℕ → Type 0) → ((q : ℕ) → R q → P q) → ((q : ℕ) → R q → Q q) → (result ≡ one) ⊎ ((result ≡ other) × IfSome result N) → IfSome one (λ q. P q → ⊥) → IfSome other (λ q. Q q → ⊥) → IfSome result (λ q. R q → ⊥)
+pub neither_holds : (one other result : Option ℕ) (P Q R N : ℕ → Type 0) → ((q : ℕ) → R q → P q) → ((q : ℕ) → R q → Q q) →
+    (result ≡ one) ⊎ ((result ≡ other) × IfSome result N) → IfSome one (λ q. P q → ⊥) → IfSome other (λ q. Q q → ⊥) → IfSome result (λ q. R q → ⊥)
 neither_holds None other result P Q R N first second (inl is) not_one not_other = rw is tt
 neither_holds (Some q) other result P Q R N first second (inl is) not_one not_other = rw is (λ all. not_one (first q all))
 neither_holds one None result P Q R N first second (inr is) not_one not_other = rw is.0 tt
@@ -59,7 +62,8 @@ pub named_once : (place : ℕ) (r : Receipted) (rest left : List Receipted) → 
 named_once place r rest left is given = rw is (grind (arith, given))
 
 -- a place that was marked before is named more often than wanted
-pub more_than_wanted : (len first place mark named rest total : ℕ) → len ≡ first → wanted len place ≤ mark → mark + named ≡ total → named ≡ rest + 1 → wanted first place < total
+pub more_than_wanted : (len first place mark named rest total : ℕ) → len ≡ first → wanted len place ≤ mark → mark + named ≡ total → named ≡ rest + 1 →
+    wanted first place < total
 more_than_wanted len first place mark named rest total same few all once = rw (sym same) (omega (arith, few, all, once))
 
 -- the lower of a place that is named too often, and of one that was so before
@@ -71,10 +75,12 @@ pub still_twice : (least first : Option ℕ) (lowest place : ℕ) (wants has : �
     → (Some lowest ≡ first) ⊎ (IsBefore lowest first × (wants lowest < has lowest))
 still_twice least first lowest place wants has (inl lower) before narrower more = inr (rw lower.0 (narrower place lower.1, more lower.1))
 still_twice least first lowest place wants has (inr is) (inl same) narrower more = inl (sym is ∙ same)
-still_twice least first lowest place wants has (inr is) (inr twice) narrower more = inr (subst (λ o. IfSome o (λ q. IsBefore q first × (wants q < has q))) is twice)
+still_twice least first lowest place wants has (inr is) (inr twice) narrower more =
+    inr (subst (λ o. IfSome o (λ q. IsBefore q first × (wants q < has q))) is twice)
 
 -- the receipts of a seat name a place, and those of the others
-pub seat_names : (p : ℕ) (s : Held) (rest left : List Held) (receipts : List Receipted) → left ≡ s ∷ rest → receipts ≡ s.receipts → named p left ≡ names p receipts + named p rest
+pub seat_names : (p : ℕ) (s : Held) (rest left : List Held) (receipts : List Receipted) → left ≡ s ∷ rest → receipts ≡ s.receipts →
+    named p left ≡ names p receipts + named p rest
 seat_names p s rest left receipts is given = rw is (rw given refl)
 
 -- a place that is named more often than wanted by some is so by all
@@ -103,10 +109,12 @@ named_too_often (Some q) second len_first len m_first m n_first n all same fresh
     rw is (λ fits. let few = twice.1 in let none = fresh q in let both = sum q in omega (arith, few, none, both, fits))
 named_too_often first None len_first len m_first m n_first n all same fresh sum marked one (inr twice) = tt
 named_too_often first (Some q) len_first len m_first m n_first n all same fresh sum marked one (inr twice) =
-    rw (sym same) (λ fits. let few = twice.1 in let none = fresh q in let both = sum q in let there = marked q twice.0 in omega (arith, few, none, both, there, fits))
+    rw (sym same) (λ fits. let few = twice.1 in let none = fresh q in let both = sum q in let there = marked q twice.0 in
+    omega (arith, few, none, both, there, fits))
 
 -- the lower of a place that is named too often, and of one that none names
-pub named_wrongly : (one other result : Option ℕ) (P : ℕ → Type 0) → (result ≡ one) ⊎ ((result ≡ other) × IfSome result (λ q. IsBefore q one)) → IfSome one (λ q. P q → ⊥) → IfSome other (λ q. IsBefore q one → P q → ⊥) → IfSome result (λ q. P q → ⊥)
+pub named_wrongly : (one other result : Option ℕ) (P : ℕ → Type 0) → (result ≡ one) ⊎ ((result ≡ other) × IfSome result (λ q. IsBefore q one)) →
+    IfSome one (λ q. P q → ⊥) → IfSome other (λ q. IsBefore q one → P q → ⊥) → IfSome result (λ q. P q → ⊥)
 named_wrongly one other result P (inl is) not_one not_other = rw is not_one
 named_wrongly one None result P (inr is) not_one not_other = rw is.0 tt
 named_wrongly one (Some q) result P (inr is) not_one not_other =
@@ -119,10 +127,12 @@ pub none_names : (unmarked twice : Option ℕ) (marks : List ℕ) (len : ℕ) (a
     → IfSome unmarked (λ q. IsBefore q twice → all q ≡ wanted len q → ⊥)
 none_names None twice marks len all same there marked = tt
 none_names (Some q) twice marks len all same there marked =
-    rw (sym same) (λ before fits. let below = there.0 in let none = there.1 in let named = marked q before in grind (arith, nat_tests, below, none, named, fits))
+    rw (sym same) (λ before fits. let below = there.0 in let none = there.1 in let named = marked q before in
+    grind (arith, nat_tests, below, none, named, fits))
 
 -- a place that is marked just once is named as often as it is wanted
-pub named_as_wanted : (marks : List ℕ) (len p has : ℕ) → length marks ≡ len → slice_index marks p ≤ 1 → (p < length marks → 1 ≤ slice_index marks p) → slice_index marks p ≡ has → has ≡ wanted len p
+pub named_as_wanted : (marks : List ℕ) (len p has : ℕ) → length marks ≡ len → slice_index marks p ≤ 1 → (p < length marks → 1 ≤ slice_index marks p) →
+    slice_index marks p ≡ has → has ≡ wanted len p
 named_as_wanted marks len p has is few there marked = elim (cases_lt p (length marks)) [
   | inl below ↦ let one = there below in rw (sym is) (grind (arith, nat_tests, below, one, few, marked))
   | inr past ↦ let none = get_or_past marks p 0 past in rw (sym is) (grind (arith, nat_tests, past, none, marked))
@@ -163,23 +173,29 @@ pub received_all : (h : List Record) (held : List Held) (received : List Record)
 received_all h held received all = same_everywhere received h (λ k. (all k).received_is)
 
 -- what was received past the end of the records, of which there are none, does not differ
-pub received_past : (h received : List Record) (records most p : ℕ) → records ≡ length h → records ≤ most → length received ≤ most → most ≤ p → slice_get received p ≡ slice_get h p
-received_past h received records most p is few short past = slice_get_past received p (omega (arith, short, past)) ∙ sym (slice_get_past h p (omega (arith, is, few, past)))
+pub received_past : (h received : List Record) (records most p : ℕ) → records ≡ length h → records ≤ most → length received ≤ most → most ≤ p →
+    slice_get received p ≡ slice_get h p
+received_past h received records most p is few short past = slice_get_past received p (omega (arith, short, past)) ∙
+    sym (slice_get_past h p (omega (arith, is, few, past)))
 
 -- seats beside which there is nobody
 pub seats_alone : (seats others all : List SeatState) → seats ≡ all → others ≡ [] → map held_in seats ++ map held_in others ≡ map held_in all
-seats_alone seats others all is none = ap (λ (hs : List SeatState). map held_in seats ++ map held_in hs) none ∙ (append-nil (map held_in seats) ∙ ap (map held_in) is)
+seats_alone seats others all is none = ap (λ (hs : List SeatState). map held_in seats ++ map held_in hs) none ∙
+    (append-nil (map held_in seats) ∙ ap (map held_in) is)
 
 -- holders beside whom there is the house
-pub with_house : (held : List Held) (houses : List SeatState) (house : SeatState) → houses ≡ house ∷ [] → held ++ map held_in houses ≡ held ++ held_in house ∷ []
+pub with_house : (held : List Held) (houses : List SeatState) (house : SeatState) → houses ≡ house ∷ [] →
+    held ++ map held_in houses ≡ held ++ held_in house ∷ []
 with_house held houses house is = ap (λ (hs : List SeatState). held ++ map held_in hs) is
 
 -- a house that held no receipt holds those of the closing
-closing_receipts : (house : Option (List Receipted)) (place : ℕ) (rs : List Record) (receipts : List Receipted) → house ≡ Some [] → Some receipts ≡ told_more place rs house → receipts ≡ receipts_from place rs
+closing_receipts : (house : Option (List Receipted)) (place : ℕ) (rs : List Record) (receipts : List Receipted) → house ≡ Some [] →
+    Some receipts ≡ told_more place rs house → receipts ≡ receipts_from place rs
 closing_receipts house place rs receipts none is =
     let told : Some receipts ≡ told_more place rs (Some []) = subst (λ (o : Option (List Receipted)). Some receipts ≡ told_more place rs o) none is in cc
 
-pub closing_is : (before book : BookState) (house : SeatState) → before.house ≡ Some [] → (world_now before).closed ≡ false → (world_now book).closed ≡ true → Ends before book (closing_records (world_now before)) house → IsClosing before book house
+pub closing_is : (before book : BookState) (house : SeatState) → before.house ≡ Some [] → (world_now before).closed ≡ false → (world_now book).closed ≡ true →
+    Ends before book (closing_records (world_now before)) house → IsClosing before book house
 closing_is before book house none still_open shut h = record {
   limits_are = h.limits;
   was_open = still_open;

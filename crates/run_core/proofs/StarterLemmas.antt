@@ -18,7 +18,8 @@ none_counted [] n none = refl
 none_counted (s ∷ sessions) n none = absurd cc
 
 -- one session more
-pub failures_more : (sessions : List ReportedSession) (s : ReportedSession) (n : ℕ) → failures_with (sessions ++ s ∷ []) n ≡ added (failures_with sessions n) (failures_after s.end_is 0)
+pub failures_more : (sessions : List ReportedSession) (s : ReportedSession) (n : ℕ) → failures_with (sessions ++ s ∷ []) n ≡ added (failures_with sessions n)
+    (failures_after s.end_is 0)
 failures_more [] s n = refl
 failures_more (one ∷ sessions) s n = failures_more sessions s (added n (failures_after one.end_is 0))
 

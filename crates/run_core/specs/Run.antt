@@ -163,7 +163,8 @@ IsLeast h held received place = (Agrees h held received place → ⊥) × ((p : 
 
 -- the sums of a legal run within these limits, gathered from these shares and from those of the house. Each of its records stands in one
 -- receipt of these holders or of the house, and these records were received, which are all of them
-pub record IsRunOf (limits : Limits) (records taken given : ℕ) (book : BookState) (house : SeatState) (shares : List Counted) (held : List Held) (received : List Record) : Type 0 where
+pub record IsRunOf (limits : Limits) (records taken given : ℕ) (book : BookState) (house : SeatState) (shares : List Counted) (held : List Held)
+    (received : List Record) : Type 0 where
   pub limits_are : book.limits ≡ limits
   pub is_legal : IsLegalRun book.limits.bounds (Some book.limits.records) book.history
   pub records_are : records ≡ length book.history
@@ -202,7 +203,8 @@ pub record IsRun (told : RunTold) : Type 0 where
   pub each : ServesEach (Some told.limits_are) book.history told.always connections told.ends
   pub house : SeatState
   pub closing : IsClosing before book house
-  pub run : IsRunOf told.limits_are told.records told.taken told.given book house (counted_by connections) (map (λ s. held_by s.process) told.ends) told.received
+  pub run : IsRunOf told.limits_are told.records told.taken told.given book house (counted_by connections) (map (λ s. held_by s.process) told.ends)
+      told.received
   pub trace : IsTold (told_of told.limits_are) told.trace book.history
 
 -- the list of received records ends early, before so many records, because memory ran out: that is the fault of the trace
@@ -214,7 +216,8 @@ IsTorn why records received = (why ≡ Some trace_fault.NoMemory) × (length rec
 abbrev pub ClosesFor : BookState → ℕ → List Held → Option TraceFault → List Record → CloseFault → Type 0
 ClosesFor b seats held why received fault.NoMemory = Unit {0}
 ClosesFor b seats held why received (fault.Missing m) = (m.held ≡ seats) × (m.opened ≡ seats_given b) × (m.held < m.opened)
-ClosesFor b seats held why received (fault.Disagree place) = (seats ≡ seats_given b) × IsLeast b.history held received place × (IsTorn why (length b.history) received → ⊥)
+ClosesFor b seats held why received (fault.Disagree place) = (seats ≡ seats_given b) × IsLeast b.history held received place ×
+    (IsTorn why (length b.history) received → ⊥)
 
 -- the fault of a run that comes to no totals for this
 abbrev pub fault_of_closing : CloseFault → RunFault

@@ -40,7 +40,8 @@ abbrev pub UnreportedFor : BookState → ℕ → List Held → Option TraceFault
 UnreportedFor b seats held why received fault.NoMemory = Unit {0}
 UnreportedFor b seats held why received fault.NoThread = Unit {0}
 UnreportedFor b seats held why received fault.Missing = seats < seats_given b
-UnreportedFor b seats held why received (fault.Disagree place) = (seats_given b ≤ seats) × IsLeast b.history held received place × (IsTorn why (length b.history) received → ⊥)
+UnreportedFor b seats held why received (fault.Disagree place) = (seats_given b ≤ seats) × IsLeast b.history held received place ×
+    (IsTorn why (length b.history) received → ⊥)
 
 -- this is no want of memory or of a thread, which may have kept a connection from being served
 abbrev pub IsNoWant : RunFault → Type 0

@@ -74,13 +74,16 @@ leaves_first a c o (Ends reply edit) = leaves_does reply edit on_table.Nothing
 leaves_first a c o (Waits moved edit) =
     let done = does (Number moved) edit on_table.Nothing in
     leaves_if o.description.nonblock (instead moved edit) (parks a (waiting c o.fd moved 0) done)
-    (leaves_if (eqb moved 0) (refused EAGAIN) done (leaves_refused EAGAIN) (leaves_does (Number moved) edit on_table.Nothing)) (leaves_parks a (waiting c o.fd moved 0) done)
+    (leaves_if (eqb moved 0) (refused EAGAIN) done (leaves_refused EAGAIN) (leaves_does (Number moved) edit on_table.Nothing))
+    (leaves_parks a (waiting c o.fd moved 0) done)
 
 leaves_read : (w : World) (p : ℕ) (c : Call) (count : ℕ) (o : OpenDescriptor) (x : Option ℕ) → Leaves (read_from w p c count o x)
 leaves_read w p c count o None = search (rules, leaves_rules)
-leaves_read w p c count o (Some pipe) = leaves_if (eqb count 0) (tells (Data [])) (first_try p c o (read_try w pipe count)) (leaves_tells (Data [])) (leaves_first p c o (read_try w pipe count))
+leaves_read w p c count o (Some pipe) = leaves_if (eqb count 0) (tells (Data [])) (first_try p c o (read_try w pipe count)) (leaves_tells (Data []))
+    (leaves_first p c o (read_try w pipe count))
 
-leaves_write : (bounds : Bounds) (w : World) (p : ℕ) (c : Call) (start : ℕ) (bytes : List ℕ) (o : OpenDescriptor) (x : Option ℕ) → Leaves (write_to bounds w p c start bytes o x)
+leaves_write : (bounds : Bounds) (w : World) (p : ℕ) (c : Call) (start : ℕ) (bytes : List ℕ) (o : OpenDescriptor) (x : Option ℕ) →
+    Leaves (write_to bounds w p c start bytes o x)
 leaves_write bounds w p c start bytes o None = search (rules, leaves_rules)
 leaves_write bounds w p c start bytes o (Some pipe) =
     let t = write_try bounds w pipe source.Act (length bytes) 0 in
@@ -91,7 +94,8 @@ leaves_end : (w : World) (p : ℕ) (name : List ℕ) (flags : OpenFlags) (f : �
 leaves_end w p name flags f fifo =
     let opens_it = opens_end w p flags f fifo in
     let parked = waiting (call.Open name flags) (free_descriptor w p) 0 (opposite_openings (mode_of flags) (Some fifo)) in
-    leaves_if (has flags flag.nonblocking || is_met w (mode_of flags) fifo) opens_it (parks p parked opens_it) (record { process = tt }) (leaves_parks p parked opens_it)
+    leaves_if (has flags flag.nonblocking || is_met w (mode_of flags) fifo) opens_it (parks p parked opens_it) (record { process = tt })
+    (leaves_parks p parked opens_it)
 
 leaves_there : (w : World) (p : ℕ) (name : List ℕ) (flags : OpenFlags) (f : ℕ) (x : Option Fifo) → Leaves (open_there w p name flags f x)
 leaves_there w p name flags f None = search (rules, leaves_rules)

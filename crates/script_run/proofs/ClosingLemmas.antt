@@ -39,7 +39,8 @@ limits_all s [] = refl
 limits_all s (r ∷ rs) = limits_all (grown s r) rs
 
 -- one record more is made after others
-adds_more : (old now new : RunState) (before after : List Receipted) (done : List Record) (actor : ℕ) (a : Act) (told : Receipted) → Adds old now before after done → Grows now new actor a told → Adds old new before (after ++ told ∷ []) (done ++ told.record_is ∷ [])
+adds_more : (old now new : RunState) (before after : List Receipted) (done : List Record) (actor : ℕ) (a : Act) (told : Receipted) →
+    Adds old now before after done → Grows now new actor a told → Adds old new before (after ++ told ∷ []) (done ++ told.record_is ∷ [])
 adds_more old now new before after done actor a told adds made =
     let r = told.record_is in
     let bounds = old.limits.bounds in
@@ -56,7 +57,8 @@ adds_more old now new before after done actor a told adds made =
       new_is = made.new_is ∙ (ap (λ (x : RunState). grown x r) adds.new_is ∙ sym (grown_push old done r));
       told =
           ap (λ (l : List Receipted). l ++ told ∷ []) adds.told ∙ (append_assoc before (receipts_from start done) (told ∷ [])
-          ∙ ap (λ (l : List Receipted). before ++ l) (ap (λ (l : List Receipted). receipts_from start done ++ l) one ∙ sym (receipts_more start done (r ∷ []))));
+          ∙ ap (λ (l : List Receipted). before ++ l) (ap (λ (l : List Receipted). receipts_from start done ++ l) one ∙
+          sym (receipts_more start done (r ∷ []))));
     }
 
 -- no exit yet
@@ -71,7 +73,8 @@ none_yet s told = record {
 }
 
 -- a process that has its connection is passed over
-pub orphan_passed : (old now : RunState) (before after : List Receipted) (n : ℕ) → OrphansSoFar old now before after (exits_ahead n now.world.processes) → n < length now.world.processes →
+pub orphan_passed : (old now : RunState) (before after : List Receipted) (n : ℕ) → OrphansSoFar old now before after (exits_ahead n now.world.processes) →
+    n < length now.world.processes →
     awaits (slot now.world.processes n) ≡ false → OrphansSoFar old now before after (exits_ahead (n + 1) now.world.processes)
 orphan_passed old now before after n so_far below other = subst (OrphansSoFar old now before after) (ahead_other now.world.processes n below other) so_far
 
@@ -84,7 +87,8 @@ orphan_away None e = cc
 orphan_away (Some p) e = not_true p.attached e
 
 -- one that has none ends
-pub orphan_ended : StepPlansProcesses → (old now new : RunState) (before after : List Receipted) (n : ℕ) (told : Receipted) → OrphansSoFar old now before after (exits_ahead n now.world.processes) →
+pub orphan_ended : StepPlansProcesses → (old now new : RunState) (before after : List Receipted) (n : ℕ) (told : Receipted) →
+    OrphansSoFar old now before after (exits_ahead n now.world.processes) →
     n < length now.world.processes → awaits (slot now.world.processes n) ≡ true → Grows now new n act.Exit told → told.record_is ≡ exit_record n →
     OrphansSoFar old new before (after ++ told ∷ []) (exits_ahead (n + 1) new.world.processes)
 orphan_ended planned old now new before after n told so_far below waits made is =
@@ -92,8 +96,10 @@ orphan_ended planned old now new before after n told so_far below waits made is 
     let qs = new.world.processes in
     let processes : qs ≡ set ps n None = exit_processes now new n told made in
     let left : exits_ahead n ps ≡ told.record_is ∷ exits_ahead (n + 1) qs =
-    ahead_orphan ps n below waits ∙ (ap (λ (r : Record). r ∷ exits_ahead (n + 1) (set ps n None)) (sym is) ∙ ap (λ (l : List (Option Process)). told.record_is ∷ exits_ahead (n + 1) l) (sym processes)) in
-    let here : SameHere now.world new.world = λ q. ap (λ (l : List (Option Process)). is_here (slot l q)) processes ∙ test_set is_here ps n None q (orphan_away (slot ps n) waits) in
+    ahead_orphan ps n below waits ∙ (ap (λ (r : Record). r ∷ exits_ahead (n + 1) (set ps n None)) (sym is) ∙
+    ap (λ (l : List (Option Process)). told.record_is ∷ exits_ahead (n + 1) l) (sym processes)) in
+    let here : SameHere now.world new.world = λ q. ap (λ (l : List (Option Process)). is_here (slot l q)) processes ∙
+    test_set is_here ps n None q (orphan_away (slot ps n) waits) in
     record {
       done = so_far.done ++ told.record_is ∷ [];
       adds = adds_more old now new before after so_far.done n act.Exit told so_far.adds made;
@@ -104,7 +110,8 @@ orphan_ended planned old now new before after n told so_far below waits made is 
     }
 
 -- all are passed or have ended
-pub orphans_ended : (old now : RunState) (before after : List Receipted) (n : ℕ) → OrphansSoFar old now before after (exits_ahead n now.world.processes) → length old.world.processes ≤ n → OrphansEnd old now before after
+pub orphans_ended : (old now : RunState) (before after : List Receipted) (n : ℕ) → OrphansSoFar old now before after (exits_ahead n now.world.processes) →
+    length old.world.processes ≤ n → OrphansEnd old now before after
 orphans_ended old now before after n so_far past =
     let none : exits_ahead n now.world.processes ≡ [] = ahead_none now.world.processes n (omega (arith, so_far.numbers, past)) in
     let all : so_far.done ≡ orphans_exits old.world = sym (append-nil so_far.done) ∙ (ap (λ (l : List Record). so_far.done ++ l) (sym none) ∙ so_far.all) in
@@ -118,13 +125,15 @@ closing_processes s t told made =
     ap (λ (w : World). w.processes) (world_stepped s t HOUSE act.CloseRun told close_run made comes)
 
 -- it follows them
-pub closes_by : StepPlansProcesses → (old now new : RunState) (exits : List Receipted) (told : Receipted) → old.world.closed ≡ false → OrphansEnd old now [] exits → Grows now new HOUSE act.CloseRun told →
+pub closes_by : StepPlansProcesses → (old now new : RunState) (exits : List Receipted) (told : Receipted) → old.world.closed ≡ false →
+    OrphansEnd old now [] exits → Grows now new HOUSE act.CloseRun told →
     told.record_is ≡ closing_record → ClosesBy old new (exits ++ told ∷ [])
 closes_by planned old now new exits told was_open ends made is =
     let done = orphans_exits old.world in
     record {
       was_open = was_open;
-      adds = subst (Adds old new [] (exits ++ told ∷ [])) (ap (λ (r : Record). done ++ r ∷ []) is) (adds_more old now new [] exits done HOUSE act.CloseRun told ends.adds made);
+      adds = subst (Adds old new [] (exits ++ told ∷ [])) (ap (λ (r : Record). done ++ r ∷ []) is)
+          (adds_more old now new [] exits done HOUSE act.CloseRun told ends.adds made);
       closed = closed_made planned now new HOUSE act.CloseRun told made;
       here = λ q. ap (λ (l : List (Option Process)). is_here (slot l q)) (closing_processes now new told made) ∙ ends.here q;
     }
@@ -133,7 +142,8 @@ pub closes_limits : (s t : RunState) (told : List Receipted) → ClosesBy s t to
 closes_limits s t told closed = ap (λ (x : RunState). x.limits) closed.adds.new_is ∙ limits_all s (closing_records s.world)
 
 -- an exit leaves one live process less
-pub live_ended : StepPlansProcesses → (s t : RunState) (p : ℕ) (told : Receipted) → Grows s t p act.Exit told → live t.world.processes + 1 ≡ live s.world.processes
+pub live_ended : StepPlansProcesses → (s t : RunState) (p : ℕ) (told : Receipted) → Grows s t p act.Exit told →
+    live t.world.processes + 1 ≡ live s.world.processes
 live_ended planned s t p told made =
     let comes = exit_comes s t p told made in
     let v = stepped s.world [] (exit p) in

@@ -29,32 +29,39 @@ abbrev pub with_record : BookState → Record → BookState
 with_record b r = record b { history = b.history ++ r ∷ [] }
 
 -- the outcome of an act, as the book gives it
-outcome_in : (b : BookState) (s : RunState) (actor : ℕ) (a : Act) (o : Outcome) → LeadsTo b s → outcome_of s.limits.bounds s.world actor a ≡ Some o → outcome_of b.limits.bounds (world_now b) actor a ≡ Some o
+outcome_in : (b : BookState) (s : RunState) (actor : ℕ) (a : Act) (o : Outcome) → LeadsTo b s → outcome_of s.limits.bounds s.world actor a ≡ Some o →
+    outcome_of b.limits.bounds (world_now b) actor a ≡ Some o
 outcome_in b s actor a o leads is =
     ap (λ (w : World). outcome_of b.limits.bounds w actor a) leads.world ∙ (ap (λ (l : Limits). outcome_of l.bounds s.world actor a) leads.limits ∙ is)
 
-pub leads_more : (b : BookState) (s : RunState) (r : Record) → LeadsTo b s → outcome_of s.limits.bounds s.world r.actor r.act ≡ Some r.outcome → LeadsTo (with_record b r) (grown s r)
+pub leads_more : (b : BookState) (s : RunState) (r : Record) → LeadsTo b s → outcome_of s.limits.bounds s.world r.actor r.act ≡ Some r.outcome →
+    LeadsTo (with_record b r) (grown s r)
 leads_more b s r leads is =
     let bounds = b.limits.bounds in
     let h = b.history in
     record {
       limits = leads.limits;
       world =
-          world_from-push bounds empty_world h r ∙ (ap (λ (w : World). after bounds w r) leads.world ∙ ap (λ (l : Limits). after l.bounds s.world r) leads.limits);
+          world_from-push bounds empty_world h r ∙ (ap (λ (w : World). after bounds w r) leads.world ∙
+          ap (λ (l : Limits). after l.bounds s.world r) leads.limits);
       records = length-append h (r ∷ []) ∙ ap (λ (n : ℕ). n + 1) leads.records;
       bytes_in = bytes_in-push bounds h r ∙ (ap (λ (w : World). bytes_in bounds h + took w r) leads.world ∙ ap (λ (n : ℕ). n + took s.world r) leads.bytes_in);
-      bytes_out = bytes_out-push bounds h r ∙ (ap (λ (w : World). bytes_out bounds h + gave w r) leads.world ∙ ap (λ (n : ℕ). n + gave s.world r) leads.bytes_out);
+      bytes_out = bytes_out-push bounds h r ∙ (ap (λ (w : World). bytes_out bounds h + gave w r) leads.world ∙
+          ap (λ (n : ℕ). n + gave s.world r) leads.bytes_out);
       is_legal = legal_from-push bounds empty_world h r leads.is_legal (outcome_in b s r.actor r.act r.outcome leads is);
     }
 
 -- the record that an act makes has its outcome
-pub made_outcome : (s t : RunState) (actor : ℕ) (a : Act) (told : Receipted) → Grows s t actor a told → outcome_of s.limits.bounds s.world told.record_is.actor told.record_is.act ≡ Some told.record_is.outcome
+pub made_outcome : (s t : RunState) (actor : ℕ) (a : Act) (told : Receipted) → Grows s t actor a told →
+    outcome_of s.limits.bounds s.world told.record_is.actor told.record_is.act ≡ Some told.record_is.outcome
 made_outcome s t actor a told made =
     let r = told.record_is in
-    ap (λ (n : ℕ). outcome_of s.limits.bounds s.world n r.act) made.actor_is ∙ (ap (λ (x : Act). outcome_of s.limits.bounds s.world actor x) made.act_is ∙ made.outcome)
+    ap (λ (n : ℕ). outcome_of s.limits.bounds s.world n r.act) made.actor_is ∙ (ap (λ (x : Act). outcome_of s.limits.bounds s.world actor x) made.act_is ∙
+    made.outcome)
 
 -- it is appended to the book
-pub appends_one : (b : BookState) (s t : RunState) (actor : ℕ) (a : Act) (told : Receipted) → LeadsTo b s → Grows s t actor a told → Appends b (with_record b told.record_is) actor a told
+pub appends_one : (b : BookState) (s t : RunState) (actor : ℕ) (a : Act) (told : Receipted) → LeadsTo b s → Grows s t actor a told →
+    Appends b (with_record b told.record_is) actor a told
 appends_one b s t actor a told leads made = record {
   outcome = outcome_in b s actor a told.record_is.outcome leads made.outcome;
   actor_is = made.actor_is;
@@ -70,9 +77,11 @@ appends_one b s t actor a told leads made = record {
 pub world_made : (s t : RunState) (actor : ℕ) (a : Act) (told : Receipted) → Grows s t actor a told → t.world ≡ after_act s.limits.bounds s.world actor a
 world_made s t actor a told made =
     let r = told.record_is in
-    ap (λ (x : RunState). x.world) made.new_is ∙ (ap (λ (n : ℕ). after_act s.limits.bounds s.world n r.act) made.actor_is ∙ ap (λ (x : Act). after_act s.limits.bounds s.world actor x) made.act_is)
+    ap (λ (x : RunState). x.world) made.new_is ∙ (ap (λ (n : ℕ). after_act s.limits.bounds s.world n r.act) made.actor_is ∙
+    ap (λ (x : Act). after_act s.limits.bounds s.world actor x) made.act_is)
 
-pub world_stepped : (s t : RunState) (actor : ℕ) (a : Act) (told : Receipted) (d : Decided) → Grows s t actor a told → comes_to s.limits.bounds s.world actor a ≡ Some d → t.world ≡ (stepped s.world (given a) d).world
+pub world_stepped : (s t : RunState) (actor : ℕ) (a : Act) (told : Receipted) (d : Decided) → Grows s t actor a told → comes_to s.limits.bounds s.world actor a
+    ≡ Some d → t.world ≡ (stepped s.world (given a) d).world
 world_stepped s t actor a told d made is = world_made s t actor a told made ∙ rw is refl
 
 pub records_made : (s t : RunState) (actor : ℕ) (a : Act) (told : Receipted) → Grows s t actor a told → t.counts.records ≡ s.counts.records + 1
@@ -82,15 +91,18 @@ pub limits_made : (s t : RunState) (actor : ℕ) (a : Act) (told : Receipted) �
 limits_made s t actor a told made = ap (λ (x : RunState). x.limits) made.new_is
 
 -- an act of which a record was made came to something
-came : (w : World) (bytes : List ℕ) (x : Option Decided) (o : Outcome) → option_map (λ s. s.outcome) (option_map (stepped w bytes) x) ≡ Some o → (d : Decided) × (x ≡ Some d)
+came : (w : World) (bytes : List ℕ) (x : Option Decided) (o : Outcome) → option_map (λ s. s.outcome) (option_map (stepped w bytes) x) ≡ Some o →
+    (d : Decided) × (x ≡ Some d)
 came w bytes None o is = cc
 came w bytes (Some d) o is = (d, refl)
 
-pub came_to : (s t : RunState) (actor : ℕ) (a : Act) (told : Receipted) → Grows s t actor a told → (d : Decided) × (comes_to s.limits.bounds s.world actor a ≡ Some d)
+pub came_to : (s t : RunState) (actor : ℕ) (a : Act) (told : Receipted) → Grows s t actor a told →
+    (d : Decided) × (comes_to s.limits.bounds s.world actor a ≡ Some d)
 came_to s t actor a told made = came s.world (given a) (comes_to s.limits.bounds s.world actor a) told.record_is.outcome made.outcome
 
 -- the book with it, and seats that fit, fit the run
-pub fits_more : (b : BookState) (s t : RunState) (seats after : Seats) (actor : ℕ) (a : Act) (told : Receipted) → FitsRun b seats s → Grows s t actor a told → t.world.closed ≡ s.world.closed →
+pub fits_more : (b : BookState) (s t : RunState) (seats after : Seats) (actor : ℕ) (a : Act) (told : Receipted) → FitsRun b seats s → Grows s t actor a told →
+    t.world.closed ≡ s.world.closed →
     SeatsFit t.world.processes t.counts.records after → FitsRun (with_record b told.record_is) after t
 fits_more b s t seats after actor a told fits made same seats_fit = record {
   leads = subst (LeadsTo (with_record b told.record_is)) (sym made.new_is) (leads_more b s told.record_is fits.leads (made_outcome s t actor a told made));
@@ -109,7 +121,8 @@ full_same b s actor a leads =
 abbrev pub with_records : BookState → List Record → BookState
 with_records b rs = record b { history = b.history ++ rs }
 
-pub leads_all : (b : BookState) (s : RunState) (rs : List Record) → LeadsTo b s → legal_from s.limits.bounds s.world rs → LeadsTo (with_records b rs) (grown_by s rs)
+pub leads_all : (b : BookState) (s : RunState) (rs : List Record) → LeadsTo b s → legal_from s.limits.bounds s.world rs →
+    LeadsTo (with_records b rs) (grown_by s rs)
 leads_all b s [] leads sound = subst (λ (h : List Record). LeadsTo (record b { history = h }) s) (sym (append-nil b.history)) leads
 leads_all b s (r ∷ rs) leads sound =
     subst (λ (h : List Record). LeadsTo (record b { history = h }) (grown_by (grown s r) rs)) (append_assoc b.history (r ∷ []) rs)

@@ -52,8 +52,16 @@ use Rattle.script_run.proofs.RunLemmas.{goes_on}
 use Rattle.script_run.proofs.SeatLemmas.{pushed_other, seat_put, seats_at, seats_stay, slot_emptied}
 
 -- a book and seats to which an act leads
-runs_to : (b : BookState) (seats : Seats) (t : RunState) (a : ScriptAct) (told : ScriptAnswer) (book : BookState) (after : Seats) → FitsRun book after t → Tells b book seats after a (told ∷ []) → RunsTo b seats t a told
-runs_to b seats t a told book after fits tells = record { book = book; seats_are = after; fits = fits; tells = tells; goes_on = goes_on b book seats after a told tells }
+runs_to : (b : BookState) (seats : Seats) (t : RunState) (a : ScriptAct) (told : ScriptAnswer) (book : BookState) (after : Seats) → FitsRun book after t →
+    Tells b book seats after a (told ∷ []) → RunsTo b seats t a told
+runs_to b seats t a told book after fits tells = record {
+  book = book;
+  seats_are = after;
+  fits = fits;
+  tells = tells;
+  goes_on =
+      goes_on b book seats after a told tells;
+}
 
 unchanged : (b : BookState) (seats : Seats) → Unchanged b b seats seats
 unchanged b seats = record { book = refl; seats_are = refl }
@@ -63,25 +71,30 @@ still_fits : (b : BookState) (seats : Seats) (s t : RunState) → FitsRun b seat
 still_fits b seats s t fits same = subst (FitsRun b seats) (sym same) fits
 
 -- whether a run is closed after an act
-pub closed_made : StepPlansProcesses → (s t : RunState) (actor : ℕ) (a : Act) (told : Receipted) → Grows s t actor a told → t.world.closed ≡ (closes a || s.world.closed)
+pub closed_made : StepPlansProcesses → (s t : RunState) (actor : ℕ) (a : Act) (told : Receipted) → Grows s t actor a told →
+    t.world.closed ≡ (closes a || s.world.closed)
 closed_made planned s t actor a told made =
     let came = came_to s t actor a told made in
     let steps : step s.limits.bounds s.world actor a ≡ Some (stepped s.world (given a) came.0) = ap (option_map (stepped s.world (given a))) came.1 in
-    ap (λ (w : World). w.closed) (world_stepped s t actor a told came.0 made came.1) ∙ (planned s.limits.bounds s.world actor a (stepped s.world (given a) came.0) steps).closed
+    ap (λ (w : World). w.closed) (world_stepped s t actor a told came.0 made came.1) ∙
+    (planned s.limits.bounds s.world actor a (stepped s.world (given a) came.0) steps).closed
 
 -- who is here after an act that leaves them
-here_made : (s t : RunState) (actor : ℕ) (a : Act) (told : Receipted) → Grows s t actor a told → ((d : Decided) → comes_to s.limits.bounds s.world actor a ≡ Some d → Leaves d) →
+here_made : (s t : RunState) (actor : ℕ) (a : Act) (told : Receipted) → Grows s t actor a told →
+    ((d : Decided) → comes_to s.limits.bounds s.world actor a ≡ Some d → Leaves d) →
     (q : ℕ) → is_here (slot t.world.processes q) ≡ is_here (slot s.world.processes q)
 here_made s t actor a told made leaves q =
     let came = came_to s t actor a told made in
-    ap (λ (w : World). is_here (slot w.processes q)) (world_stepped s t actor a told came.0 made came.1) ∙ here_stepped s.world (given a) came.0 (leaves came.0 came.1).process q
+    ap (λ (w : World). is_here (slot w.processes q)) (world_stepped s t actor a told came.0 made came.1) ∙
+    here_stepped s.world (given a) came.0 (leaves came.0 came.1).process q
 
 -- ---- joins and attaches
 
 join_free : (b : BookState) (s : RunState) → LeadsTo b s → join_refusal b ≡ opening_refusal s (run.next_pid s) act.Join
 join_free b s leads =
     let next : next_pid b ≡ run.next_pid s = ap (λ (w : World). length w.processes) leads.world in
-    ap (λ (n : ℕ). first_refusal ((is_too_full b n act.Join, RunFull) ∷ [])) next ∙ ap (λ (full : Bool). first_refusal ((full, RunFull) ∷ [])) (full_same b s (run.next_pid s) act.Join leads)
+    ap (λ (n : ℕ). first_refusal ((is_too_full b n act.Join, RunFull) ∷ [])) next ∙ ap (λ (full : Bool). first_refusal ((full, RunFull) ∷ []))
+    (full_same b s (run.next_pid s) act.Join leads)
 
 attach_free : (b : BookState) (s : RunState) (p : ℕ) → LeadsTo b s → attach_refusal b p ≡ opening_refusal s p act.Attach
 attach_free b s p leads = ap (λ (full : Bool). first_refusal ((full, RunFull) ∷ [])) (full_same b s p act.Attach leads)
@@ -90,17 +103,20 @@ attach_free b s p leads = ap (λ (full : Bool). first_refusal ((full, RunFull) �
 join_comes : (s : RunState) → comes_to s.limits.bounds s.world (run.next_pid s) act.Join ≡ Some (decided_by (join s.world))
 join_comes s = let n = length s.world.processes in let same : eqb n n ≡ true = eq-eqb n n refl in rw same refl
 
-joined : (w : World) (b : Bool) → is_full w ≡ b → (stepped w [] (decided_by (join w))).world.processes ≡ cond b w.processes (w.processes ++ Some (process_with free_table true) ∷ [])
+joined : (w : World) (b : Bool) → is_full w ≡ b → (stepped w [] (decided_by (join w))).world.processes ≡ cond b w.processes
+    (w.processes ++ Some (process_with free_table true) ∷ [])
 joined w true e = rw e refl
 joined w false e = rw e refl
 
 -- and after an attach
-attached : (w : World) (p : ℕ) (b : Bool) → awaits (slot w.processes p) ≡ b → (stepped w [] (decided_by (attach w p))).world.processes ≡ cond b (edited p with_connection w.processes) w.processes
+attached : (w : World) (p : ℕ) (b : Bool) → awaits (slot w.processes p) ≡ b → (stepped w [] (decided_by (attach w p))).world.processes ≡ cond b
+    (edited p with_connection w.processes) w.processes
 attached w p true e = rw e refl
 attached w p false e = rw e refl
 
 -- a seat is put for a process that is here now
-seated : (ps qs : List (Option Process)) (records more n : ℕ) (told : Receipted) (seats : Seats) → SeatsFit ps records seats → told.place ≡ records → more ≡ records + 1 → is_here (slot qs n) ≡ true →
+seated : (ps qs : List (Option Process)) (records more n : ℕ) (told : Receipted) (seats : Seats) → SeatsFit ps records seats → told.place ≡ records →
+    more ≡ records + 1 → is_here (slot qs n) ≡ true →
     ((q : ℕ) → n ≢ q → is_here (slot qs q) ≡ is_here (slot ps q)) → SeatsFit qs more (with_seat n (first_seat n told) seats)
 seated ps qs records more n told seats fits place count here others =
     let s = first_seat n told in
@@ -109,7 +125,8 @@ seated ps qs records more n told seats fits place count here others =
     let stands : StandsFor more n (slot qs n) (Some s) = (here, refl, seen) in
     seats_at ps qs records more seats (with_seat n s seats) n fits (subst (StandsFor more n (slot qs n)) (sym put.0) stands) put.1 others (omega (arith, count))
 
-join_seats : (ps qs : List (Option Process)) (records more : ℕ) (told : Receipted) (seats : Seats) (full : Bool) → SeatsFit ps records seats → told.place ≡ records → more ≡ records + 1 →
+join_seats : (ps qs : List (Option Process)) (records more : ℕ) (told : Receipted) (seats : Seats) (full : Bool) → SeatsFit ps records seats →
+    told.place ≡ records → more ≡ records + 1 →
     qs ≡ cond full ps (ps ++ Some (process_with free_table true) ∷ []) → SeatsFit qs more (seats_after (length ps) told seats full)
 join_seats ps qs records more told seats true fits place count is =
     seats_stay ps qs records more seats fits (λ q. ap (λ (l : List (Option Process)). is_here (slot l q)) is) (omega (arith, count))
@@ -124,18 +141,21 @@ awaiting : (x : Option Process) → awaits x ≡ true → (y : Process) × (x �
 awaiting None e = cc
 awaiting (Some y) e = (y, refl)
 
-attach_seats : (ps qs : List (Option Process)) (records more p : ℕ) (told : Receipted) (seats : Seats) (b : Bool) → awaits (slot ps p) ≡ b → SeatsFit ps records seats → told.place ≡ records → more ≡ records + 1 →
+attach_seats : (ps qs : List (Option Process)) (records more p : ℕ) (told : Receipted) (seats : Seats) (b : Bool) → awaits (slot ps p) ≡ b →
+    SeatsFit ps records seats → told.place ≡ records → more ≡ records + 1 →
     qs ≡ cond b (edited p with_connection ps) ps → SeatsFit qs more (seats_after p told seats (not b))
 attach_seats ps qs records more p told seats false e fits place count is =
     seats_stay ps qs records more seats fits (λ q. ap (λ (l : List (Option Process)). is_here (slot l q)) is) (omega (arith, count))
 attach_seats ps qs records more p told seats true e fits place count is =
     let there = awaiting (slot ps p) e in
     let here : is_here (slot qs p) ≡ true =
-    ap (λ (l : List (Option Process)). is_here (slot l p)) is ∙ (ap is_here (slot_set_there ps p there.0 (option_map with_connection (slot ps p)) there.1) ∙ ap (λ (x : Option Process). is_here (option_map with_connection x)) there.1) in
+    ap (λ (l : List (Option Process)). is_here (slot l p)) is ∙ (ap is_here (slot_set_there ps p there.0 (option_map with_connection (slot ps p)) there.1) ∙
+    ap (λ (x : Option Process). is_here (option_map with_connection x)) there.1) in
     seated ps qs records more p told seats fits place count here
     (λ q apart. ap (λ (l : List (Option Process)). is_here (slot l q)) is ∙ ap is_here (set_other ps p q (option_map with_connection (slot ps p)) apart))
 
-pub join_to : StepPlansProcesses → (b : BookState) (seats : Seats) (s t : RunState) (ran : Result Receipted Refusal) → FitsRun b seats s → JoinGoes s t ran → RunsTo b seats t script.Join (answer_of (run.next_pid s) script.Join ran)
+pub join_to : StepPlansProcesses → (b : BookState) (seats : Seats) (s t : RunState) (ran : Result Receipted Refusal) → FitsRun b seats s → JoinGoes s t ran →
+    RunsTo b seats t script.Join (answer_of (run.next_pid s) script.Join ran)
 join_to planned b seats s t (Ok told) fits goes =
     let leads = fits.leads in
     let n = run.next_pid s in
@@ -145,26 +165,39 @@ join_to planned b seats s t (Ok told) fits goes =
     let after = seats_after n told seats (is_full s.world) in
     let same : seats_after (next_pid b) told seats (is_full (world_now b)) ≡ after =
     ap (λ (m : ℕ). seats_after m told seats (is_full (world_now b))) next ∙ ap (λ (w : World). seats_after n told seats (is_full w)) leads.world in
-    let processes = ap (λ (w : World). w.processes) (world_stepped s t n act.Join told (decided_by (join s.world)) made (join_comes s)) ∙ joined s.world (is_full s.world) refl in
-    let seats_fit = join_seats s.world.processes t.world.processes s.counts.records t.counts.records told seats (is_full s.world) fits.seats_fit made.place (records_made s t n act.Join told made) processes in
-    runs_to b seats t script.Join (Recorded told) book after (fits_more b s t seats after n act.Join told fits made (closed_made planned s t n act.Join told made) seats_fit)
-    (record { free = join_free b s leads ∙ goes.0; appends = subst (λ (m : ℕ). Appends b book m act.Join told) (sym next) (appends_one b s t n act.Join told leads made); seats_are = sym same })
+    let processes = ap (λ (w : World). w.processes) (world_stepped s t n act.Join told (decided_by (join s.world)) made (join_comes s)) ∙
+    joined s.world (is_full s.world) refl in
+    let seats_fit = join_seats s.world.processes t.world.processes s.counts.records t.counts.records told seats (is_full s.world) fits.seats_fit made.place
+    (records_made s t n act.Join told made) processes in
+    runs_to b seats t script.Join (Recorded told) book after
+    (fits_more b s t seats after n act.Join told fits made (closed_made planned s t n act.Join told made) seats_fit)
+    (record {
+      free = join_free b s leads ∙ goes.0;
+      appends = subst (λ (m : ℕ). Appends b book m act.Join told) (sym next)
+          (appends_one b s t n act.Join told leads made);
+      seats_are = sym same;
+    })
 join_to planned b seats s t (Err refusal) fits goes =
     let next : next_pid b ≡ run.next_pid s = ap (λ (w : World). length w.processes) fits.leads.world in
     runs_to b seats t script.Join (Refused (run.next_pid s) script.Join refusal) b seats (still_fits b seats s t fits goes.1)
     (sym next, refl, (subst (λ (due : Option Refusal). IsDue due refusal) (sym (join_free b s fits.leads)) goes.0, unchanged b seats))
 
-pub attach_to : StepPlansProcesses → (b : BookState) (seats : Seats) (s t : RunState) (p : ℕ) (ran : Result Receipted Refusal) → FitsRun b seats s → AttachGoes s t p ran → RunsTo b seats t (script.Attach p) (answer_of p (script.Attach p) ran)
+pub attach_to : StepPlansProcesses → (b : BookState) (seats : Seats) (s t : RunState) (p : ℕ) (ran : Result Receipted Refusal) → FitsRun b seats s →
+    AttachGoes s t p ran → RunsTo b seats t (script.Attach p) (answer_of p (script.Attach p) ran)
 attach_to planned b seats s t p (Ok told) fits goes =
     let leads = fits.leads in
     let made = goes.1 in
     let book = with_record b told.record_is in
     let waits = awaits (slot s.world.processes p) in
     let after = seats_after p told seats (not waits) in
-    let same : seats_after p told seats (not (awaits (slot (world_now b).processes p))) ≡ after = ap (λ (w : World). seats_after p told seats (not (awaits (slot w.processes p)))) leads.world in
-    let processes = ap (λ (w : World). w.processes) (world_stepped s t p act.Attach told (decided_by (attach s.world p)) made refl) ∙ attached s.world p waits refl in
-    let seats_fit = attach_seats s.world.processes t.world.processes s.counts.records t.counts.records p told seats waits refl fits.seats_fit made.place (records_made s t p act.Attach told made) processes in
-    runs_to b seats t (script.Attach p) (Recorded told) book after (fits_more b s t seats after p act.Attach told fits made (closed_made planned s t p act.Attach told made) seats_fit)
+    let same : seats_after p told seats (not (awaits (slot (world_now b).processes p))) ≡ after =
+    ap (λ (w : World). seats_after p told seats (not (awaits (slot w.processes p)))) leads.world in
+    let processes = ap (λ (w : World). w.processes) (world_stepped s t p act.Attach told (decided_by (attach s.world p)) made refl) ∙
+    attached s.world p waits refl in
+    let seats_fit = attach_seats s.world.processes t.world.processes s.counts.records t.counts.records p told seats waits refl fits.seats_fit made.place
+    (records_made s t p act.Attach told made) processes in
+    runs_to b seats t (script.Attach p) (Recorded told) book after
+    (fits_more b s t seats after p act.Attach told fits made (closed_made planned s t p act.Attach told made) seats_fit)
     (record { free = attach_free b s p leads ∙ goes.0; appends = appends_one b s t p act.Attach told leads made; seats_are = sym same })
 attach_to planned b seats s t p (Err refusal) fits goes =
     runs_to b seats t (script.Attach p) (Refused p (script.Attach p) refusal) b seats (still_fits b seats s t fits goes.1)
@@ -179,7 +212,8 @@ unseen b s x leads seen = le-ltb (length b.history) x.seen (omega (arith, leads.
 abbrev exit_due : World → ℕ → Option Refusal
 exit_due w n = first_refusal ((not (is_here (slot w.processes n)), NotHere) ∷ [])
 
-exit_same : (b : BookState) (s : RunState) (x : SeatState) (p : ℕ) → LeadsTo b s → x.pid ≡ p → x.seen ≤ s.counts.records → exit_refusal b x ≡ run.exit_refusal s p
+exit_same : (b : BookState) (s : RunState) (x : SeatState) (p : ℕ) → LeadsTo b s → x.pid ≡ p → x.seen ≤ s.counts.records →
+    exit_refusal b x ≡ run.exit_refusal s p
 exit_same b s x p leads pid seen =
     let first : exit_refusal b x ≡ exit_due (world_now b) x.pid = rw (unseen b s x leads seen) refl in
     first ∙ (ap (λ (w : World). exit_due w x.pid) leads.world ∙ ap (exit_due s.world) pid)
@@ -187,11 +221,13 @@ exit_same b s x p leads pid seen =
 abbrev call_due : World → ℕ → Bool → Option Refusal
 call_due w n full = first_refusal ((not (is_here (slot w.processes n)), NotHere) ∷ (is_parked (slot w.processes n), Waiting) ∷ (full, RunFull) ∷ [])
 
-start_same : (b : BookState) (s : RunState) (x : SeatState) (p : ℕ) (c : Call) → LeadsTo b s → x.pid ≡ p → x.seen ≤ s.counts.records → start_refusal b x c ≡ call_refusal s p c
+start_same : (b : BookState) (s : RunState) (x : SeatState) (p : ℕ) (c : Call) → LeadsTo b s → x.pid ≡ p → x.seen ≤ s.counts.records →
+    start_refusal b x c ≡ call_refusal s p c
 start_same b s x p c leads pid seen =
     let a = act.Call c in
     let first : start_refusal b x c ≡ call_due (world_now b) x.pid (is_too_full b x.pid a) = rw (unseen b s x leads seen) refl in
-    first ∙ (ap (λ (w : World). call_due w x.pid (is_too_full b x.pid a)) leads.world ∙ (ap (λ (n : ℕ). call_due s.world n (is_too_full b n a)) pid ∙ ap (call_due s.world p) (full_same b s p a leads)))
+    first ∙ (ap (λ (w : World). call_due w x.pid (is_too_full b x.pid a)) leads.world ∙ (ap (λ (n : ℕ). call_due s.world n (is_too_full b n a)) pid ∙
+    ap (call_due s.world p) (full_same b s p a leads)))
 
 ready_same : (b : BookState) (s : RunState) (p : ℕ) → LeadsTo b s → is_ready_in b p ≡ run.is_ready_in s p
 ready_same b s p leads = ap (λ (w : World). is_ready b.limits.bounds w p) leads.world ∙ ap (λ (l : Limits). is_ready l.bounds s.world p) leads.limits
@@ -199,9 +235,11 @@ ready_same b s p leads = ap (λ (w : World). is_ready b.limits.bounds w p) leads
 abbrev resume_due : World → ℕ → Bool → Option Refusal
 resume_due w n full = first_refusal ((not (is_here (slot w.processes n)), NotHere) ∷ (full, RunFull) ∷ [])
 
-resume_same : (b : BookState) (s : RunState) (x : SeatState) (p : ℕ) → LeadsTo b s → x.pid ≡ p → x.seen ≤ s.counts.records → resume_refusal b x ≡ run.resume_refusal s p
+resume_same : (b : BookState) (s : RunState) (x : SeatState) (p : ℕ) → LeadsTo b s → x.pid ≡ p → x.seen ≤ s.counts.records →
+    resume_refusal b x ≡ run.resume_refusal s p
 resume_same b s x p leads pid seen =
-    let first : resume_refusal b x ≡ resume_due (world_now b) x.pid (is_ready_in b x.pid && is_too_full b x.pid act.Resume) = rw (unseen b s x leads seen) refl in
+    let first : resume_refusal b x ≡ resume_due (world_now b) x.pid (is_ready_in b x.pid && is_too_full b x.pid act.Resume) =
+    rw (unseen b s x leads seen) refl in
     first ∙ (ap (λ (w : World). resume_due w x.pid (is_ready_in b x.pid && is_too_full b x.pid act.Resume)) leads.world
     ∙ (ap (λ (n : ℕ). resume_due s.world n (is_ready_in b n && is_too_full b n act.Resume)) pid
     ∙ (ap (λ (ready : Bool). resume_due s.world p (ready && is_too_full b p act.Resume)) (ready_same b s p leads)
@@ -221,8 +259,10 @@ record SeatActs (b : BookState) (seats : Seats) (t : RunState) (p : ℕ) (x : Se
   fits : FitsRun (with_record b told.record_is) (set seats p (Some (received b x told))) t
   records : Records b (with_record b told.record_is) x (received b x told) a told
 
-seat_acts : (b : BookState) (seats : Seats) (s t : RunState) (p : ℕ) (x : SeatState) (a : Act) (told : Receipted) → FitsRun b seats s → slot seats p ≡ Some x → StandsFor s.counts.records p (slot s.world.processes p) (Some x) →
-    Grows s t p a told → t.world.closed ≡ s.world.closed → ((d : Decided) → comes_to s.limits.bounds s.world p a ≡ Some d → Leaves d) → SeatActs b seats t p x a told
+seat_acts : (b : BookState) (seats : Seats) (s t : RunState) (p : ℕ) (x : SeatState) (a : Act) (told : Receipted) → FitsRun b seats s → slot seats p ≡ Some x →
+    StandsFor s.counts.records p (slot s.world.processes p) (Some x) →
+    Grows s t p a told → t.world.closed ≡ s.world.closed → ((d : Decided) → comes_to s.limits.bounds s.world p a ≡ Some d → Leaves d) →
+    SeatActs b seats t p x a told
 seat_acts b seats s t p x a told fits is stands made same leaves =
     let ps = s.world.processes in
     let qs = t.world.processes in
@@ -254,10 +294,12 @@ leaves_came false x d is h = cc
 not_none : (due : Option Refusal) (refusal : Refusal) → due ≡ Some refusal → due ≡ None → ⊥
 not_none due refusal is none = cc
 
-pub call_to : StepPlansProcesses → (b : BookState) (seats : Seats) (s t : RunState) (p : ℕ) (c : Call) (told : ScriptAnswer) → FitsRun b seats s → CallGoes s t p c told → RunsTo b seats t (script.Call p c) told
+pub call_to : StepPlansProcesses → (b : BookState) (seats : Seats) (s t : RunState) (p : ℕ) (c : Call) (told : ScriptAnswer) → FitsRun b seats s →
+    CallGoes s t p c told → RunsTo b seats t (script.Call p c) told
 call_to planned b seats s t p c (Recorded told) fits goes = by_seat (slot seats p) refl (fits.seats_fit p)
   where
-    by_seat : (x : Option SeatState) → slot seats p ≡ x → StandsFor s.counts.records p (slot s.world.processes p) x → RunsTo b seats t (script.Call p c) (Recorded told)
+    by_seat : (x : Option SeatState) → slot seats p ≡ x → StandsFor s.counts.records p (slot s.world.processes p) x →
+        RunsTo b seats t (script.Call p c) (Recorded told)
     by_seat None is none = absurd (not_none (call_refusal s p c) NotHere (rw none refl) goes.0)
     by_seat (Some x) is stands =
         let a = act.Call c in
@@ -269,9 +311,11 @@ call_to planned b seats s t p c (Recorded told) fits goes = by_seat (slot seats 
         (subst (CallRuns b book seats (set seats p (Some y)) p c (Ok told)) (sym is)
         (record { free = start_same b s x p c fits.leads stands.1 stands.2 ∙ goes.0; seat = y; records = acts.records; seats_are = refl }))
 call_to planned b seats s t p c (Refused actor refused refusal) fits goes =
-    runs_to b seats t (script.Call p c) (Refused actor refused refusal) b seats (still_fits b seats s t fits goes.3) (goes.0, goes.1, by_seat (slot seats p) refl (fits.seats_fit p))
+    runs_to b seats t (script.Call p c) (Refused actor refused refusal) b seats (still_fits b seats s t fits goes.3)
+    (goes.0, goes.1, by_seat (slot seats p) refl (fits.seats_fit p))
   where
-    by_seat : (x : Option SeatState) → slot seats p ≡ x → StandsFor s.counts.records p (slot s.world.processes p) x → CallRuns b b seats seats p c (Err refusal) (slot seats p)
+    by_seat : (x : Option SeatState) → slot seats p ≡ x → StandsFor s.counts.records p (slot s.world.processes p) x → CallRuns b b seats seats p c (Err refusal)
+        (slot seats p)
     by_seat None is none =
         let due : call_refusal s p c ≡ Some NotHere = rw none refl in
         subst (CallRuns b b seats seats p c (Err refusal)) (sym is) (subst (λ (d : Option Refusal). IsDue d refusal) due goes.2, unchanged b seats)
@@ -281,15 +325,18 @@ call_to planned b seats s t p c (Refused actor refused refusal) fits goes =
 call_to planned b seats s t p c (Closed told) fits goes = absurd goes
 call_to planned b seats s t p c (Still actor still) fits goes = absurd goes
 
-pub resume_to : StepPlansProcesses → (b : BookState) (seats : Seats) (s t : RunState) (p : ℕ) (told : ScriptAnswer) → FitsRun b seats s → ResumeGoes s t p told → RunsTo b seats t (script.Resume p) told
+pub resume_to : StepPlansProcesses → (b : BookState) (seats : Seats) (s t : RunState) (p : ℕ) (told : ScriptAnswer) → FitsRun b seats s →
+    ResumeGoes s t p told → RunsTo b seats t (script.Resume p) told
 resume_to planned b seats s t p (Recorded told) fits goes = by_seat (slot seats p) refl (fits.seats_fit p)
   where
-    by_seat : (x : Option SeatState) → slot seats p ≡ x → StandsFor s.counts.records p (slot s.world.processes p) x → RunsTo b seats t (script.Resume p) (Recorded told)
+    by_seat : (x : Option SeatState) → slot seats p ≡ x → StandsFor s.counts.records p (slot s.world.processes p) x →
+        RunsTo b seats t (script.Resume p) (Recorded told)
     by_seat None is none = absurd (not_none (run.resume_refusal s p) NotHere (rw none refl) goes.0)
     by_seat (Some x) is stands =
         let book = with_record b told.record_is in
         let y = received b x told in
-        let acts = seat_acts b seats s t p x act.Resume told fits is stands goes.2 (closed_made planned s t p act.Resume told goes.2) (λ d came. resume_leaves s.limits.bounds s.world p d came) in
+        let acts = seat_acts b seats s t p x act.Resume told fits is stands goes.2 (closed_made planned s t p act.Resume told goes.2)
+        (λ d came. resume_leaves s.limits.bounds s.world p d came) in
         runs_to b seats t (script.Resume p) (Recorded told) book (set seats p (Some y)) acts.fits
         (subst (ResumeRuns b book seats (set seats p (Some y)) p (Ok told)) (sym is)
         (record {
@@ -300,7 +347,8 @@ resume_to planned b seats s t p (Recorded told) fits goes = by_seat (slot seats 
           seats_are = refl;
         }))
 resume_to planned b seats s t p (Still actor still) fits goes =
-    runs_to b seats t (script.Resume p) (Still actor still) b seats (still_fits b seats s t fits goes.4) (goes.0, goes.1, by_seat (slot seats p) refl (fits.seats_fit p))
+    runs_to b seats t (script.Resume p) (Still actor still) b seats (still_fits b seats s t fits goes.4)
+    (goes.0, goes.1, by_seat (slot seats p) refl (fits.seats_fit p))
   where
     by_seat : (x : Option SeatState) → slot seats p ≡ x → StandsFor s.counts.records p (slot s.world.processes p) x → StaysStill b b seats seats (slot seats p)
     by_seat None is none = absurd (not_none (run.exit_refusal s p) NotHere (rw none refl) goes.2)
@@ -308,9 +356,11 @@ resume_to planned b seats s t p (Still actor still) fits goes =
         subst (StaysStill b b seats seats) (sym is)
         (exit_same b s x p fits.leads stands.1 stands.2 ∙ goes.2, ap (is_ready_in b) stands.1 ∙ (ready_same b s p fits.leads ∙ goes.3), unchanged b seats)
 resume_to planned b seats s t p (Refused actor refused refusal) fits goes =
-    runs_to b seats t (script.Resume p) (Refused actor refused refusal) b seats (still_fits b seats s t fits goes.3) (goes.0, goes.1, by_seat (slot seats p) refl (fits.seats_fit p))
+    runs_to b seats t (script.Resume p) (Refused actor refused refusal) b seats (still_fits b seats s t fits goes.3)
+    (goes.0, goes.1, by_seat (slot seats p) refl (fits.seats_fit p))
   where
-    by_seat : (x : Option SeatState) → slot seats p ≡ x → StandsFor s.counts.records p (slot s.world.processes p) x → ResumeRuns b b seats seats p (Err refusal) (slot seats p)
+    by_seat : (x : Option SeatState) → slot seats p ≡ x → StandsFor s.counts.records p (slot s.world.processes p) x → ResumeRuns b b seats seats p (Err refusal)
+        (slot seats p)
     by_seat None is none =
         let due : run.resume_refusal s p ≡ Some NotHere = rw none refl in
         subst (ResumeRuns b b seats seats p (Err refusal)) (sym is) (subst (λ (d : Option Refusal). IsDue d refusal) due goes.2.due, unchanged b seats)
@@ -318,7 +368,8 @@ resume_to planned b seats s t p (Refused actor refused refusal) fits goes =
         subst (ResumeRuns b b seats seats p (Err refusal)) (sym is) (
           record {
             due = subst (λ (d : Option Refusal). IsDue d refusal) (sym (resume_same b s x p fits.leads stands.1 stands.2)) goes.2.due;
-            ready = λ free. ap (is_ready_in b) stands.1 ∙ (ready_same b s p fits.leads ∙ goes.2.ready (sym (exit_same b s x p fits.leads stands.1 stands.2) ∙ free));
+            ready = λ free. ap (is_ready_in b) stands.1 ∙
+                (ready_same b s p fits.leads ∙ goes.2.ready (sym (exit_same b s x p fits.leads stands.1 stands.2) ∙ free));
           },
           unchanged b seats,
         )
@@ -339,10 +390,12 @@ exit_comes s t p told made =
 pub exit_processes : (s t : RunState) (p : ℕ) (told : Receipted) → Grows s t p act.Exit told → t.world.processes ≡ set s.world.processes p None
 exit_processes s t p told made = ap (λ (w : World). w.processes) (world_stepped s t p act.Exit told (exit p) made (exit_comes s t p told made))
 
-pub exit_to : StepPlansProcesses → (b : BookState) (seats : Seats) (s t : RunState) (p : ℕ) (ran : Result Receipted Refusal) → FitsRun b seats s → ExitGoes s t p ran → RunsTo b seats t (script.Exit p) (answer_of p (script.Exit p) ran)
+pub exit_to : StepPlansProcesses → (b : BookState) (seats : Seats) (s t : RunState) (p : ℕ) (ran : Result Receipted Refusal) → FitsRun b seats s →
+    ExitGoes s t p ran → RunsTo b seats t (script.Exit p) (answer_of p (script.Exit p) ran)
 exit_to planned b seats s t p (Ok told) fits goes = by_seat (slot seats p) refl (fits.seats_fit p)
   where
-    by_seat : (x : Option SeatState) → slot seats p ≡ x → StandsFor s.counts.records p (slot s.world.processes p) x → RunsTo b seats t (script.Exit p) (Recorded told)
+    by_seat : (x : Option SeatState) → slot seats p ≡ x → StandsFor s.counts.records p (slot s.world.processes p) x →
+        RunsTo b seats t (script.Exit p) (Recorded told)
     by_seat None is none = absurd (not_none (run.exit_refusal s p) NotHere (rw none refl) goes.0)
     by_seat (Some x) is stands =
         let made = goes.1 in
@@ -354,9 +407,12 @@ exit_to planned b seats s t p (Ok told) fits goes = by_seat (slot seats p) refl 
         let count = records_made s t p act.Exit told made in
         let gone : is_here (slot qs p) ≡ false = ap (λ (l : List (Option Process)). is_here (slot l p)) processes ∙ ap is_here (slot_emptied ps p) in
         let seats_fit : SeatsFit qs t.counts.records after =
-        seats_at ps qs s.counts.records t.counts.records seats after p fits.seats_fit (subst (StandsFor t.counts.records p (slot qs p)) (sym (slot_emptied seats p)) gone)
-        (λ q apart. set_other seats p q None apart) (λ q apart. ap (λ (l : List (Option Process)). is_here (slot l q)) processes ∙ ap is_here (set_other ps p q None apart)) (omega (arith, count)) in
-        runs_to b seats t (script.Exit p) (Recorded told) book after (fits_more b s t seats after p act.Exit told fits made (closed_made planned s t p act.Exit told made) seats_fit)
+        seats_at ps qs s.counts.records t.counts.records seats after p fits.seats_fit
+        (subst (StandsFor t.counts.records p (slot qs p)) (sym (slot_emptied seats p)) gone)
+        (λ q apart. set_other seats p q None apart) (λ q apart. ap (λ (l : List (Option Process)). is_here (slot l q)) processes ∙
+        ap is_here (set_other ps p q None apart)) (omega (arith, count)) in
+        runs_to b seats t (script.Exit p) (Recorded told) book after
+        (fits_more b s t seats after p act.Exit told fits made (closed_made planned s t p act.Exit told made) seats_fit)
         (subst (ExitRuns b book seats after p (Ok told)) (sym is)
         (record {
           free = exit_same b s x p fits.leads stands.1 stands.2 ∙ goes.0;
@@ -364,27 +420,41 @@ exit_to planned b seats s t p (Ok told) fits goes = by_seat (slot seats p) refl 
           seats_are = refl;
         }))
 exit_to planned b seats s t p (Err refusal) fits goes =
-    runs_to b seats t (script.Exit p) (Refused p (script.Exit p) refusal) b seats (still_fits b seats s t fits goes.1) (refl, refl, by_seat (slot seats p) refl (fits.seats_fit p))
+    runs_to b seats t (script.Exit p) (Refused p (script.Exit p) refusal) b seats (still_fits b seats s t fits goes.1)
+    (refl, refl, by_seat (slot seats p) refl (fits.seats_fit p))
   where
-    by_seat : (x : Option SeatState) → slot seats p ≡ x → StandsFor s.counts.records p (slot s.world.processes p) x → ExitRuns b b seats seats p (Err refusal) (slot seats p)
+    by_seat : (x : Option SeatState) → slot seats p ≡ x → StandsFor s.counts.records p (slot s.world.processes p) x → ExitRuns b b seats seats p (Err refusal)
+        (slot seats p)
     by_seat None is none =
         let due : run.exit_refusal s p ≡ Some NotHere = rw none refl in
         let same : Some NotHere ≡ Some refusal = sym due ∙ goes.0 in
         let it : refusal ≡ NotHere = cc in
         subst (ExitRuns b b seats seats p (Err refusal)) (sym is) (it, unchanged b seats)
-    by_seat (Some x) is stands = subst (ExitRuns b b seats seats p (Err refusal)) (sym is) (exit_same b s x p fits.leads stands.1 stands.2 ∙ goes.0, unchanged b seats)
+    by_seat (Some x) is stands = subst (ExitRuns b b seats seats p (Err refusal)) (sym is) (
+      exit_same b s x p fits.leads stands.1 stands.2 ∙ goes.0,
+      unchanged b seats,
+    )
 
 -- ---- the closing
 
 -- what a book's house holds says nothing of where its records lead
 leads_housed : (b : BookState) (s : RunState) (house : Option (List Receipted)) → LeadsTo b s → LeadsTo (record b { house = house }) s
-leads_housed b s house leads = record { limits = leads.limits; world = leads.world; records = leads.records; bytes_in = leads.bytes_in; bytes_out = leads.bytes_out; is_legal = leads.is_legal }
+leads_housed b s house leads = record {
+  limits = leads.limits;
+  world = leads.world;
+  records = leads.records;
+  bytes_in = leads.bytes_in;
+  bytes_out =
+      leads.bytes_out;
+  is_legal = leads.is_legal;
+}
 
 pub records_all : (s : RunState) (rs : List Record) → (grown_by s rs).counts.records ≡ s.counts.records + length rs
 records_all s [] = omega arith
 records_all s (r ∷ rs) = omega (arith, records_all (grown s r) rs)
 
-pub closing_to : (b : BookState) (seats : Seats) (s t : RunState) (told : Vec Receipted) → FitsRun b seats s → ClosesBy s t told.items → RunsTo b seats t script.CloseRun (Closed told)
+pub closing_to : (b : BookState) (seats : Seats) (s t : RunState) (told : Vec Receipted) → FitsRun b seats s → ClosesBy s t told.items →
+    RunsTo b seats t script.CloseRun (Closed told)
 closing_to b seats s t told fits closed =
     let leads = fits.leads in
     let rs = closing_records s.world in
@@ -396,9 +466,19 @@ closing_to b seats s t told fits closed =
     let count : t.counts.records ≡ s.counts.records + length rs = ap (λ (x : RunState). x.counts.records) closed.adds.new_is ∙ records_all s rs in
     let all : LeadsTo (with_records b rs) t = subst (LeadsTo (with_records b rs)) (sym closed.adds.new_is) (leads_all b s rs leads closed.adds.is_legal) in
     let receipts : Some told.items ≡ told_more (length h) now b.house =
-    ap Some closed.adds.told ∙ (ap (λ (n : ℕ). Some (receipts_from n rs)) (sym leads.records) ∙ (ap (λ (l : List Record). Some (receipts_from (length h) l)) same ∙ ap (told_more (length h) now) (sym house_is))) in
+    ap Some closed.adds.told ∙ (ap (λ (n : ℕ). Some (receipts_from n rs)) (sym leads.records) ∙
+    (ap (λ (l : List Record). Some (receipts_from (length h) l)) same ∙ ap (told_more (length h) now) (sym house_is))) in
     let ends : Ends b book now (seat_of_house book told.items) =
-    record { limits = refl; is_traced = refl; history = ap (λ (l : List Record). h ++ l) same; pid = refl; seen = refl; receipts = receipts; counts = refl; given_away = refl } in
+    record {
+      limits = refl;
+      is_traced = refl;
+      history = ap (λ (l : List Record). h ++ l) same;
+      pid = refl;
+      seen = refl;
+      receipts = receipts;
+      counts = refl;
+      given_away = refl;
+    } in
     runs_to b seats t script.CloseRun (Closed told) book seats
     (record {
       leads = leads_housed (with_records b rs) t None all;
@@ -407,9 +487,11 @@ closing_to b seats s t told fits closed =
     })
     (refl, (ap (λ (w : World). w.closed) leads.world ∙ closed.was_open, ends), refl)
 
-pub closing_still : (b : BookState) (seats : Seats) (s : RunState) → FitsRun b seats s → s.world.closed ≡ true → RunsTo b seats s script.CloseRun (Still HOUSE script.CloseRun)
+pub closing_still : (b : BookState) (seats : Seats) (s : RunState) → FitsRun b seats s → s.world.closed ≡ true →
+    RunsTo b seats s script.CloseRun (Still HOUSE script.CloseRun)
 closing_still b seats s fits is =
-    runs_to b seats s script.CloseRun (Still HOUSE script.CloseRun) b seats fits (refl, refl, ((ap (λ (w : World). w.closed) fits.leads.world ∙ is, refl), refl))
+    runs_to b seats s script.CloseRun (Still HOUSE script.CloseRun) b seats fits
+    (refl, refl, ((ap (λ (w : World). w.closed) fits.leads.world ∙ is, refl), refl))
 
 -- an exit leaves a run open or closed
 pub exit_closed : StepPlansProcesses → (s t : RunState) (p : ℕ) (ran : Result Receipted Refusal) → ExitGoes s t p ran → t.world.closed ≡ s.world.closed

@@ -33,7 +33,8 @@ use Rattle.script_run.specs.Proved.Planned.{IsPlanned}
 use Rattle.script_run.specs.Proved.Refusing.{is_too_full, call_refusal}
 
 -- the world after an act that comes to something
-pub after_step : (s : RunState) (actor : ℕ) (a : Act) (d : Decided) → comes_to s.limits.bounds s.world actor a ≡ Some d → after_act s.limits.bounds s.world actor a ≡ (stepped s.world (given a) d).world
+pub after_step : (s : RunState) (actor : ℕ) (a : Act) (d : Decided) → comes_to s.limits.bounds s.world actor a ≡ Some d →
+    after_act s.limits.bounds s.world actor a ≡ (stepped s.world (given a) d).world
 after_step s actor a d is = rw is refl
 
 -- after a call there are as many exits left as before it and as many more as it adds processes
@@ -47,10 +48,12 @@ call_exits planned s p c may =
     let v = (stepped w (given (act.Call c)) d).world in
     let P : World → Type 0 = λ u. exits_left u ≡ cond w.closed (live w.processes + adds w (act.Call c)) (live w.processes + adds w (act.Call c) + 1) in
     subst P (sym (after_step s p (act.Call c) d comes))
-    (exits_of w v (adds w (act.Call c)) (planned s.limits.bounds w p (act.Call c) (stepped w (given (act.Call c)) d) (ap (option_map (stepped w (given (act.Call c)))) comes)))
+    (exits_of w v (adds w (act.Call c)) (planned s.limits.bounds w p (act.Call c) (stepped w (given (act.Call c)) d)
+    (ap (option_map (stepped w (given (act.Call c)))) comes)))
 
 -- what an act comes to can be recorded, if its record fits
-pub plans : ActsAreSound → StepPlansProcesses → StepKeepsWhole → (s : RunState) (actor : ℕ) (a : Act) (d : Decided) → IsRun s → s.limits.bounds.file_size ≤ OFFSET_MAX →
+pub plans : ActsAreSound → StepPlansProcesses → StepKeepsWhole → (s : RunState) (actor : ℕ) (a : Act) (d : Decided) → IsRun s →
+    s.limits.bounds.file_size ≤ OFFSET_MAX →
     comes_to s.limits.bounds s.world actor a ≡ Some d → is_too_full s actor a ≡ false → IsPlanned s actor a d
 plans sound planned keeps s actor a d run small is roomy =
     let w = s.world in
@@ -162,5 +165,6 @@ grows_by s t actor a d told made =
       actor_is = ap (λ (x : Receipted). x.record_is.actor) made.told_is;
       act_is = ap (λ (x : Receipted). x.record_is.act) made.told_is;
       place = ap (λ (x : Receipted). x.place) made.told_is;
-      new_is = same_state t s.limits (after s.limits.bounds s.world r) (counted_with s.world r s.counts) made.limits world made.counts ∙ sym (ap (λ (x : Receipted). grown s x.record_is) made.told_is);
+      new_is = same_state t s.limits (after s.limits.bounds s.world r) (counted_with s.world r s.counts) made.limits world made.counts ∙
+          sym (ap (λ (x : Receipted). grown s x.record_is) made.told_is);
     }

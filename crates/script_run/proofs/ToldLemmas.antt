@@ -11,7 +11,8 @@ use Rattle.script_run.specs.Proved.Going.{JoinGoes, AttachGoes, ExitGoes, CallGo
 use Rattle.script_run.specs.declared.told.ScriptAnswer.{ScriptAnswer}
 use Rattle.script_run.specs.declared.told.ScriptAnswer.TheVariants.{Recorded, Closed, Still, Refused}
 
-pub call_told : (old new : RunState) (process : ℕ) (call : Call) (told : ScriptAnswer) → CallGoes old new process call told → IsToldOf (script.Call process call) told
+pub call_told : (old new : RunState) (process : ℕ) (call : Call) (told : ScriptAnswer) → CallGoes old new process call told →
+    IsToldOf (script.Call process call) told
 call_told old new process call (Recorded told) goes = (goes.1.actor_is, goes.1.act_is)
 call_told old new process call (Closed records) goes = tt
 call_told old new process call (Still actor still) goes = tt
@@ -24,26 +25,32 @@ resume_told old new process (Still actor still) goes = tt
 resume_told old new process (Refused actor refused refusal) goes = tt
 
 -- what is told by its result
-by_result : (actor : ℕ) (a : ScriptAct) (ran : Result Receipted Refusal) (told : ScriptAnswer) → told ≡ answer_of actor a ran → IsToldOf a (answer_of actor a ran) → IsToldOf a told
+by_result : (actor : ℕ) (a : ScriptAct) (ran : Result Receipted Refusal) (told : ScriptAnswer) → told ≡ answer_of actor a ran →
+    IsToldOf a (answer_of actor a ran) → IsToldOf a told
 by_result actor a ran told is own = subst (IsToldOf a) (sym is) own
 
 join_own : (old new : RunState) (actor : ℕ) (ran : Result Receipted Refusal) → JoinGoes old new ran → IsToldOf script.Join (answer_of actor script.Join ran)
 join_own old new actor (Ok told) goes = goes.1.act_is
 join_own old new actor (Err refusal) goes = tt
 
-pub join_told : (old new : RunState) (actor : ℕ) (ran : Result Receipted Refusal) (told : ScriptAnswer) → JoinGoes old new ran → told ≡ answer_of actor script.Join ran → IsToldOf script.Join told
+pub join_told : (old new : RunState) (actor : ℕ) (ran : Result Receipted Refusal) (told : ScriptAnswer) → JoinGoes old new ran →
+    told ≡ answer_of actor script.Join ran → IsToldOf script.Join told
 join_told old new actor ran told goes is = by_result actor script.Join ran told is (join_own old new actor ran goes)
 
-attach_own : (old new : RunState) (process : ℕ) (ran : Result Receipted Refusal) → AttachGoes old new process ran → IsToldOf (script.Attach process) (answer_of process (script.Attach process) ran)
+attach_own : (old new : RunState) (process : ℕ) (ran : Result Receipted Refusal) → AttachGoes old new process ran →
+    IsToldOf (script.Attach process) (answer_of process (script.Attach process) ran)
 attach_own old new process (Ok told) goes = (goes.1.actor_is, goes.1.act_is)
 attach_own old new process (Err refusal) goes = tt
 
-pub attach_told : (old new : RunState) (process : ℕ) (ran : Result Receipted Refusal) (told : ScriptAnswer) → AttachGoes old new process ran → told ≡ answer_of process (script.Attach process) ran → IsToldOf (script.Attach process) told
+pub attach_told : (old new : RunState) (process : ℕ) (ran : Result Receipted Refusal) (told : ScriptAnswer) → AttachGoes old new process ran →
+    told ≡ answer_of process (script.Attach process) ran → IsToldOf (script.Attach process) told
 attach_told old new process ran told goes is = by_result process (script.Attach process) ran told is (attach_own old new process ran goes)
 
-exit_own : (old new : RunState) (process : ℕ) (ran : Result Receipted Refusal) → ExitGoes old new process ran → IsToldOf (script.Exit process) (answer_of process (script.Exit process) ran)
+exit_own : (old new : RunState) (process : ℕ) (ran : Result Receipted Refusal) → ExitGoes old new process ran →
+    IsToldOf (script.Exit process) (answer_of process (script.Exit process) ran)
 exit_own old new process (Ok told) goes = (goes.1.actor_is, goes.1.act_is)
 exit_own old new process (Err refusal) goes = tt
 
-pub exit_told : (old new : RunState) (process : ℕ) (ran : Result Receipted Refusal) (told : ScriptAnswer) → ExitGoes old new process ran → told ≡ answer_of process (script.Exit process) ran → IsToldOf (script.Exit process) told
+pub exit_told : (old new : RunState) (process : ℕ) (ran : Result Receipted Refusal) (told : ScriptAnswer) → ExitGoes old new process ran →
+    told ≡ answer_of process (script.Exit process) ran → IsToldOf (script.Exit process) told
 exit_told old new process ran told goes is = by_result process (script.Exit process) ran told is (exit_own old new process ran goes)

@@ -8,7 +8,8 @@ taken : (word rest : List ℕ) → is_long_answer word rest ≡ true → answer_
 taken word rest long = rw long refl
 
 -- an answer of more than one word is the whole text
-pub whole : (text word rest : List ℕ) → (word, Some rest) ≡ cut 32 text → is_long_answer word rest ≡ true → Some text ≡ answer_of_words (cut 32 text).0 (cut 32 text).1
+pub whole : (text word rest : List ℕ) → (word, Some rest) ≡ cut 32 text → is_long_answer word rest ≡ true → Some text ≡ answer_of_words (cut 32 text).0
+    (cut 32 text).1
 whole text word rest e long =
     ap (λ (bytes : List ℕ). Some bytes) (cut_joined text ∙ ap (λ (parts : List ℕ × Unread). parts.0 ++ tail parts.1) (sym e))
     ∙ sym (ap (λ (parts : List ℕ × Unread). answer_of_words parts.0 parts.1) (sym e) ∙ taken word rest long)

@@ -57,7 +57,8 @@ few_places line bytes many short = λ front word is spells. elim spells [
 ]
 
 pub counted_end : (line : List ℕ) (count byte : ℕ) → 16 < count → length line ≤ 2 * count → EndsAsWritten line (replicate count byte)
-counted_end line count byte many short = few_places line (replicate count byte) (omega (arith, length-replicate count byte)) (omega (arith, length-replicate count byte))
+counted_end line count byte many short = few_places line (replicate count byte) (omega (arith, length-replicate count byte))
+    (omega (arith, length-replicate count byte))
 
 few_bytes : (bytes : List ℕ) → length bytes ≤ 16 → one_byte bytes ≡ None
 few_bytes [] few = refl
@@ -68,17 +69,20 @@ star_seen front rest =
     let line : List ℕ = front ++ (42 ∷ rest) in
     let long : length line ≡ length front + (length rest + 1) = omega (arith, length-append front (42 ∷ rest)) in
     let at : length line - (length rest + 1) ≡ length front = omega (arith, long) in
-    ap is_star (ap (slice_get line) at ∙ slice_get-get_or line (length front) 0 (omega (arith, long)) ∙ ap (λ (c : ℕ). Some c) (get_or-append_seam front 42 rest 0))
+    ap is_star (ap (slice_get line) at ∙ slice_get-get_or line (length front) 0 (omega (arith, long)) ∙
+    ap (λ (c : ℕ). Some c) (get_or-append_seam front 42 rest 0))
 
 -- a * before one or two digits is seen
 star_before : (line front : List ℕ) (count : ℕ) → line ≡ front ++ (42 ∷ decimal count) → count ≤ 16 → has_star 2 line ≡ false → has_star 3 line ≡ false → ⊥
 star_before line front count is few second third = elim (cases_lt count 10) [
   | inl one ↦
-      let seen : has_star 2 line ≡ true = ap (has_star 2) (is ∙ ap (λ (ds : List ℕ). front ++ (42 ∷ ds)) (decimal_digit count one)) ∙ star_seen front ((48 + count) ∷ []) in
+      let seen : has_star 2 line ≡ true = ap (has_star 2) (is ∙ ap (λ (ds : List ℕ). front ++ (42 ∷ ds)) (decimal_digit count one)) ∙
+      star_seen front ((48 + count) ∷ []) in
       absurd (let both : true ≡ false = sym seen ∙ second in cc)
   | inr more ↦
       let seen : has_star 3 line ≡ true =
-      ap (has_star 3) (is ∙ ap (λ (ds : List ℕ). front ++ (42 ∷ ds)) (two_digits count more (omega (arith, few)))) ∙ star_seen front ((48 + count / 10) ∷ (48 + count % 10) ∷ []) in
+      ap (has_star 3) (is ∙ ap (λ (ds : List ℕ). front ++ (42 ∷ ds)) (two_digits count more (omega (arith, few)))) ∙
+      star_seen front ((48 + count / 10) ∷ (48 + count % 10) ∷ []) in
       absurd (let both : true ≡ false = sym seen ∙ third in cc)
 ]
 
@@ -94,7 +98,8 @@ few_end line bytes few none = λ front word is spells. elim spells [
       let stars = either (has_star 2 line) (has_star 3 line) none in
       let count : length bytes ≡ p.1 = ap length p.4 ∙ length-replicate p.1 p.0 in
       absurd
-      (star_before line (front ++ hex_pair p.0) p.1 (is ∙ ap (λ (w : List ℕ). front ++ w) p.5 ∙ sym (append_assoc front (hex_pair p.0) (42 ∷ decimal p.1))) (omega (arith, count, few)) stars.0 stars.1)
+      (star_before line (front ++ hex_pair p.0) p.1 (is ∙ ap (λ (w : List ℕ). front ++ w) p.5 ∙ sym (append_assoc front (hex_pair p.0) (42 ∷ decimal p.1)))
+      (omega (arith, count, few)) stars.0 stars.1)
 ]
 
 -- ---- lines
@@ -107,26 +112,35 @@ more word rest text own others e w r = e ∙ ap (λ (x : List ℕ). 32 ∷ (x ++
 onward : (line front text word rest : List ℕ) → line ≡ front ++ text → text ≡ 32 ∷ (word ++ rest) → line ≡ (front ++ (32 ∷ word)) ++ rest
 onward line front text word rest is e = is ∙ ap (λ (x : List ℕ). front ++ x) e ∙ sym (append_assoc front (32 ∷ word) rest)
 
-fields_written : (ks : List FieldKind) (vs : Values ks) (line front text : List ℕ) → line ≡ front ++ text → FieldsAsWritten line ks vs → SpellsFields ks vs text → text ≡ fields_text ks vs
+fields_written : (ks : List FieldKind) (vs : Values ks) (line front text : List ℕ) → line ≡ front ++ text → FieldsAsWritten line ks vs →
+    SpellsFields ks vs text → text ≡ fields_text ks vs
 fields_written [] vs line front text is h s = s
-fields_written (a_descriptor ∷ ks) vs line front text is h s = more s.0 s.1 text _ _ s.3 s.2.0 (fields_written ks vs.1 line (front ++ (32 ∷ s.0)) s.1 (onward line front text s.0 s.1 is s.3) h s.4)
-fields_written (a_position ∷ ks) vs line front text is h s = more s.0 s.1 text _ _ s.3 s.2.0 (fields_written ks vs.1 line (front ++ (32 ∷ s.0)) s.1 (onward line front text s.0 s.1 is s.3) h s.4)
-fields_written (a_count ∷ ks) vs line front text is h s = more s.0 s.1 text _ _ s.3 s.2.0 (fields_written ks vs.1 line (front ++ (32 ∷ s.0)) s.1 (onward line front text s.0 s.1 is s.3) h s.4)
+fields_written (a_descriptor ∷ ks) vs line front text is h s =
+    more s.0 s.1 text _ _ s.3 s.2.0 (fields_written ks vs.1 line (front ++ (32 ∷ s.0)) s.1 (onward line front text s.0 s.1 is s.3) h s.4)
+fields_written (a_position ∷ ks) vs line front text is h s =
+    more s.0 s.1 text _ _ s.3 s.2.0 (fields_written ks vs.1 line (front ++ (32 ∷ s.0)) s.1 (onward line front text s.0 s.1 is s.3) h s.4)
+fields_written (a_count ∷ ks) vs line front text is h s =
+    more s.0 s.1 text _ _ s.3 s.2.0 (fields_written ks vs.1 line (front ++ (32 ∷ s.0)) s.1 (onward line front text s.0 s.1 is s.3) h s.4)
 fields_written (a_name ∷ ks) vs line front text is h s = absurd h
 fields_written (a_payload ∷ []) vs line front text is h s =
-    more s.0 s.1 text _ _ s.3 (h (front ++ (32 ∷ [])) s.0 (onward line front text s.0 s.1 is s.3 ∙ ap (λ (x : List ℕ). (front ++ (32 ∷ s.0)) ++ x) s.4 ∙ append-nil (front ++ (32 ∷ s.0)) ∙ sym (append_assoc front (32 ∷ []) s.0)) s.2) s.4
+    more s.0 s.1 text _ _ s.3 (h (front ++ (32 ∷ [])) s.0 (onward line front text s.0 s.1 is s.3 ∙ ap (λ (x : List ℕ). (front ++ (32 ∷ s.0)) ++ x) s.4 ∙
+    append-nil (front ++ (32 ∷ s.0)) ∙ sym (append_assoc front (32 ∷ []) s.0)) s.2) s.4
 fields_written (a_payload ∷ k ∷ ks) vs line front text is h s = absurd h
-fields_written (some_flags ∷ ks) vs line front text is h s = more s.0 s.1 text _ _ s.3 s.2.0 (fields_written ks vs.1 line (front ++ (32 ∷ s.0)) s.1 (onward line front text s.0 s.1 is s.3) h s.4)
-fields_written (a_whence ∷ ks) vs line front text is h s = more s.0 s.1 text _ _ s.3 s.2 (fields_written ks vs.1 line (front ++ (32 ∷ s.0)) s.1 (onward line front text s.0 s.1 is s.3) h s.4)
+fields_written (some_flags ∷ ks) vs line front text is h s =
+    more s.0 s.1 text _ _ s.3 s.2.0 (fields_written ks vs.1 line (front ++ (32 ∷ s.0)) s.1 (onward line front text s.0 s.1 is s.3) h s.4)
+fields_written (a_whence ∷ ks) vs line front text is h s =
+    more s.0 s.1 text _ _ s.3 s.2 (fields_written ks vs.1 line (front ++ (32 ∷ s.0)) s.1 (onward line front text s.0 s.1 is s.3) h s.4)
 
 -- a line that ends in what a call's fields are spelled as
-call_written : (process : ℕ) (call : Call) (line : List ℕ) → FieldsAsWritten line (parts call).entry.fields (parts call).values → reading line ≡ Ok (asked.Call process call) → line ≡ process_word process ++ (32 ∷ call_text call)
+call_written : (process : ℕ) (call : Call) (line : List ℕ) → FieldsAsWritten line (parts call).entry.fields (parts call).values →
+    reading line ≡ Ok (asked.Call process call) → line ≡ process_word process ++ (32 ∷ call_text call)
 unfolding call_text
 call_written process call line h e =
     let s = reading_takes line (asked.Call process call) e in
     let word : List ℕ = (parts call).entry.word in
     let front : List ℕ = process_word process ++ (32 ∷ word) in
-    let is : line ≡ front ++ s.2.0 = s.3 ∙ ap (λ (text : List ℕ). process_word process ++ (32 ∷ text)) s.2.2 ∙ sym (append_assoc (process_word process) (32 ∷ word) s.2.0) in
+    let is : line ≡ front ++ s.2.0 = s.3 ∙ ap (λ (text : List ℕ). process_word process ++ (32 ∷ text)) s.2.2 ∙
+    sym (append_assoc (process_word process) (32 ∷ word) s.2.0) in
     let fields = fields_written (parts call).entry.fields (parts call).values line front s.2.0 is h s.2.1 in
     s.3 ∙ ap (λ (text : List ℕ). process_word process ++ (32 ∷ text)) (s.2.2 ∙ ap (λ (x : List ℕ). word ++ x) fields)
 
@@ -147,10 +161,12 @@ joined : (front actor act : List ℕ) → front ++ (actor ++ (32 ∷ act)) ≡ f
 joined front actor act = sym (append_assoc (front ++ actor) (codes " ") act ∙ append_assoc front actor (32 ∷ act))
 
 -- the line of a record is its place, the line that asked for it, and the outcome
-pub copied : (place : ℕ) (line : List ℕ) (r : Record) → IsAsWritten line r.act → IsReadAs line r.actor r.act → copied_line place line r.outcome ≡ record_line place r
+pub copied : (place : ℕ) (line : List ℕ) (r : Record) → IsAsWritten line r.act → IsReadAs line r.actor r.act →
+    copied_line place line r.outcome ≡ record_line place r
 copied place line r h e =
     let front : List ℕ = decimal place ++ codes " " in
     let is : front ++ line ≡ front ++ actor_word r.actor r.act ++ codes " " ++ act_text r.act =
-    ap (λ (l : List ℕ). front ++ l) (act_written line r.actor r.act h e ∙ ap (λ (actor : List ℕ). actor ++ (32 ∷ act_text r.act)) (sym (actor_written line r.actor r.act h)))
+    ap (λ (l : List ℕ). front ++ l) (act_written line r.actor r.act h e ∙ ap (λ (actor : List ℕ). actor ++ (32 ∷ act_text r.act))
+    (sym (actor_written line r.actor r.act h)))
     ∙ joined front (actor_word r.actor r.act) (act_text r.act) in
     ap (λ (l : List ℕ). l ++ codes " = " ++ outcome_text r.outcome ++ codes "\n") is

@@ -34,10 +34,12 @@ most = 2 ^ 64 - 1
 
 -- a word is not one that has no value, where it has one
 differs : {A : Type 0} (value : List ℕ → Option A) (word other : List ℕ) (a : A) → value word ≡ Some a → value other ≡ None → bytes_eq word other ≡ false
-differs {A} value word other a e none = false_from_ne_true (bytes_eq word other) (λ same. absurd (let is : Some a ≡ None = sym e ∙ ap value ((bytes_eq-Decides word other).0 same) ∙ none in cc))
+differs {A} value word other a e none = false_from_ne_true (bytes_eq word other)
+    (λ same. absurd (let is : Some a ≡ None = sym e ∙ ap value ((bytes_eq-Decides word other).0 same) ∙ none in cc))
 
 -- a text is asked for by its words, unless it is a ?
-by_words : (text : List ℕ) (word : List ℕ) (after : Unread) → bytes_eq text (codes "?") ≡ false → cut 32 text ≡ (word, after) → answer_of_words word after ≡ Some text → asked_of text ≡ Some (Some text)
+by_words : (text : List ℕ) (word : List ℕ) (after : Unread) → bytes_eq text (codes "?") ≡ false → cut 32 text ≡ (word, after) →
+    answer_of_words word after ≡ Some text → asked_of text ≡ Some (Some text)
 by_words text word after other parts is =
     cond-false (bytes_eq text (codes "?")) (Some None) (option_map (λ (t : List ℕ). Some t) (answer_of_words (cut 32 text).0 (cut 32 text).1)) other
     ∙ ap (λ (p : List ℕ × Unread). option_map (λ (t : List ℕ). Some t) (answer_of_words p.0 p.1)) parts
@@ -65,7 +67,8 @@ data_asked bytes are few =
     let written = data_written bytes are few in
     let read : data_of (data_word bytes) ≡ Some bytes = data_again bytes (data_word bytes) written in
     one_word (data_word bytes) (data_unbroken bytes (data_word bytes) written) (differs data_of (data_word bytes) (codes "?") bytes read refl)
-    (cond_both (stands_as_it_is (data_word bytes)) (Some (data_word bytes)) (option_map data_word (data_of (data_word bytes))) (λ o. o ≡ Some (data_word bytes)) (λ _. refl) (λ _. ap (option_map data_word) read))
+    (cond_both (stands_as_it_is (data_word bytes)) (Some (data_word bytes)) (option_map data_word (data_of (data_word bytes))) (λ o. o ≡ Some (data_word bytes))
+    (λ _. refl) (λ _. ap (option_map data_word) read))
 
 -- ---- answers of more words
 
@@ -73,7 +76,8 @@ data_asked bytes are few =
 more_words : (word rest : List ℕ) → Unbroken word → is_long_answer word rest ≡ true → asked_of (word ++ (32 ∷ rest)) ≡ Some (Some (word ++ (32 ∷ rest)))
 more_words word rest whole long =
     let parts = cut_again word (Some rest) whole in
-    by_words (word ++ (32 ∷ rest)) word (Some rest) (differs (λ (text : List ℕ). (cut 32 text).1) (word ++ (32 ∷ rest)) (codes "?") rest (ap (λ (p : List ℕ × Unread). p.1) parts) refl) parts
+    by_words (word ++ (32 ∷ rest)) word (Some rest) (differs (λ (text : List ℕ). (cut 32 text).1) (word ++ (32 ∷ rest)) (codes "?") rest
+    (ap (λ (p : List ℕ × Unread). p.1) parts) refl) parts
     (cond-true (is_long_answer word rest) (Some (word ++ (32 ∷ rest))) None long)
 
 pair_long : (first second : ℕ) → first < 2 ^ 64 → second < 2 ^ 64 → is_long_answer (decimal first) (decimal second) ≡ true
@@ -91,7 +95,8 @@ pair_long first second h k =
 
 waits_asked : (moved : ℕ) → moved < 2 ^ 32 → asked_of (codes "waits " ++ decimal moved) ≡ Some (Some (codes "waits " ++ decimal moved))
 waits_asked moved h =
-    more_words (codes "waits") (decimal moved) (unbroken (codes "waits") refl) (ap (λ (o : Option ℕ). is_some o) (number_again (2 ^ 32 - 1) moved (omega arith) (omega arith)))
+    more_words (codes "waits") (decimal moved) (unbroken (codes "waits") refl)
+    (ap (λ (o : Option ℕ). is_some o) (number_again (2 ^ 32 - 1) moved (omega arith) (omega arith)))
 
 error_named : (errno : Errno) → names_error (error_word errno) ≡ true
 error_named errors.EBADF = refl
@@ -106,20 +111,26 @@ IsAsked text = asked_of text ≡ Some (Some text)
 
 pair_asked : (first second : ℕ) → first < 2 ^ 64 → second < 2 ^ 64 → IsAsked (decimal first ++ codes " " ++ decimal second)
 pair_asked first second h k =
-    subst IsAsked (sym (append_assoc (decimal first) (codes " ") (decimal second))) (more_words (decimal first) (decimal second) (decimal_unbroken first h) (pair_long first second h k))
+    subst IsAsked (sym (append_assoc (decimal first) (codes " ") (decimal second))) (more_words (decimal first) (decimal second) (decimal_unbroken first h)
+    (pair_long first second h k))
 
 numbers_are : (size links : ℕ) → size < 2 ^ 64 → links < 2 ^ 64 → are_numbers (Some (decimal size ++ (32 ∷ decimal links))) ≡ true
 numbers_are size links h k =
-    ap (λ (p : List ℕ × Unread). is_number p.0 && is_last_number p.1) (cut_again (decimal size) (Some (decimal links)) (decimal_unbroken size h)) ∙ rw (numeral_is size h, numeral_is links k) refl
+    ap (λ (p : List ℕ × Unread). is_number p.0 && is_last_number p.1) (cut_again (decimal size) (Some (decimal links)) (decimal_unbroken size h)) ∙
+    rw (numeral_is size h, numeral_is links k) refl
 
 stat_asked : (kind : FileType) (size links : ℕ) → size < 2 ^ 64 → links < 2 ^ 64 → IsAsked (kind_word kind ++ (32 ∷ (decimal size ++ (32 ∷ decimal links))))
-stat_asked kinds.Regular size links h k = more_words (codes "regular") (decimal size ++ (32 ∷ decimal links)) (unbroken (codes "regular") refl) (numbers_are size links h k)
-stat_asked kinds.Fifo size links h k = more_words (codes "fifo") (decimal size ++ (32 ∷ decimal links)) (unbroken (codes "fifo") refl) (numbers_are size links h k)
-stat_asked kinds.Pipe size links h k = more_words (codes "pipe") (decimal size ++ (32 ∷ decimal links)) (unbroken (codes "pipe") refl) (numbers_are size links h k)
+stat_asked kinds.Regular size links h k = more_words (codes "regular") (decimal size ++ (32 ∷ decimal links)) (unbroken (codes "regular") refl)
+    (numbers_are size links h k)
+stat_asked kinds.Fifo size links h k = more_words (codes "fifo") (decimal size ++ (32 ∷ decimal links)) (unbroken (codes "fifo") refl)
+    (numbers_are size links h k)
+stat_asked kinds.Pipe size links h k = more_words (codes "pipe") (decimal size ++ (32 ∷ decimal links)) (unbroken (codes "pipe") refl)
+    (numbers_are size links h k)
 
 stat_parts : (kind size links : List ℕ) → kind ++ codes " " ++ size ++ codes " " ++ links ≡ kind ++ (32 ∷ (size ++ (32 ∷ links)))
 stat_parts kind size links =
-    ap (λ (front : List ℕ). front ++ codes " " ++ links) (append_assoc kind (codes " ") size) ∙ ap (λ (front : List ℕ). front ++ links) (append_assoc kind (32 ∷ size) (codes " "))
+    ap (λ (front : List ℕ). front ++ codes " " ++ links) (append_assoc kind (codes " ") size) ∙
+    ap (λ (front : List ℕ). front ++ links) (append_assoc kind (32 ∷ size) (codes " "))
     ∙ append_assoc kind (32 ∷ (size ++ codes " ")) links ∙ ap (λ (rest : List ℕ). kind ++ (32 ∷ rest)) (append_assoc size (codes " ") links)
 
 reply_asked : (reply : Reply) → FitsReply reply → IsAsked (reply_text reply)
@@ -127,7 +138,8 @@ reply_asked replies.Done h = refl
 reply_asked (replies.Number n) h = number_asked n h
 reply_asked (replies.Data bytes) h = data_asked bytes h.0 h.1
 reply_asked (replies.Pair first second) h = pair_asked first second h.0 h.1
-reply_asked (replies.Stat stat) h = subst IsAsked (sym (stat_parts (kind_word stat.kind) (decimal stat.size) (decimal stat.links))) (stat_asked stat.kind stat.size stat.links h.0 h.1)
+reply_asked (replies.Stat stat) h = subst IsAsked (sym (stat_parts (kind_word stat.kind) (decimal stat.size) (decimal stat.links)))
+    (stat_asked stat.kind stat.size stat.links h.0 h.1)
 reply_asked (replies.Error errno) h = error_asked errno
 
 -- each answer can be asked for

@@ -55,12 +55,17 @@ word_takes expected (Some bytes) w e =
 abbrev text_from : Word → List ℕ
 text_from w = w.text ++ tail w.after
 
-last_takes : (word : List ℕ) (last act : ScriptAct) (w : Word) → bytes_eq w.text word ≡ true → last_word last w.after ≡ Ok act → (text_from w ≡ word) × (last ≡ act)
+last_takes : (word : List ℕ) (last act : ScriptAct) (w : Word) → bytes_eq w.text word ≡ true → last_word last w.after ≡ Ok act →
+    (text_from w ≡ word) × (last ≡ act)
 last_takes word last act w t e =
-    let end = bind_ok (ended w.after) (λ end. Ok last) act e in
-    (ap (λ (x : List ℕ). x ++ tail w.after) ((bytes_eq-Decides w.text word).0 t) ∙ ap (λ (l : Unread). word ++ tail l) (ended_takes w.after end.0 end.1) ∙ append-nil word, ok_is last act end.2)
+    let end = bind_ok (ended w.after) (λ end. Ok last) act e in (
+      ap (λ (x : List ℕ). x ++ tail w.after) ((bytes_eq-Decides w.text word).0 t) ∙ ap (λ (l : Unread). word ++ tail l) (ended_takes w.after end.0 end.1) ∙
+          append-nil word,
+      ok_is last act end.2,
+    )
 
-call_act_takes : (process : ℕ) (w : Word) (act : ScriptAct) → process < 2 ^ 32 → (named_call w >>= λ call. Ok (acts.Call process call)) ≡ Ok act → SpellsAct act (process_word process ++ (32 ∷ text_from w))
+call_act_takes : (process : ℕ) (w : Word) (act : ScriptAct) → process < 2 ^ 32 → (named_call w >>= λ call. Ok (acts.Call process call)) ≡ Ok act →
+    SpellsAct act (process_word process ++ (32 ∷ text_from w))
 call_act_takes process w act h e =
     let k = bind_ok (named_call w) (λ call. Ok (acts.Call process call)) act e in
     subst (λ (a : ScriptAct). SpellsAct a (process_word process ++ (32 ∷ text_from w))) (ok_is (acts.Call process k.0) act k.2)
@@ -68,7 +73,8 @@ call_act_takes process w act h e =
 
 -- a word that is the last of its line, or else what else is read
 word_or_takes : (word : List ℕ) (last act : ScriptAct) (w : Word) (other : Result ScriptAct BadWord) (line : List ℕ → List ℕ) → SpellsAct last (line word)
-    → (other ≡ Ok act → SpellsAct act (line (text_from w))) → cond (bytes_eq w.text word) (last_word last w.after) other ≡ Ok act → SpellsAct act (line (text_from w))
+    → (other ≡ Ok act → SpellsAct act (line (text_from w))) → cond (bytes_eq w.text word) (last_word last w.after) other ≡ Ok act →
+    SpellsAct act (line (text_from w))
 word_or_takes word last act w other line spelled rest e =
     elim (chosen (bytes_eq w.text word) (last_word last w.after) other (Ok act) e) [
       | inl is ↦
@@ -77,7 +83,8 @@ word_or_takes word last act w other line spelled rest e =
       | inr past ↦ rest past.1
     ]
 
-process_act_takes : (process : ℕ) (w : Word) (act : ScriptAct) → process < 2 ^ 32 → process_act process w ≡ Ok act → SpellsAct act (process_word process ++ (32 ∷ text_from w))
+process_act_takes : (process : ℕ) (w : Word) (act : ScriptAct) → process < 2 ^ 32 → process_act process w ≡ Ok act →
+    SpellsAct act (process_word process ++ (32 ∷ text_from w))
 process_act_takes process w act h =
     let line : List ℕ → List ℕ = λ text. process_word process ++ (32 ∷ text) in
     let a_call : Result ScriptAct BadWord = named_call w >>= λ call. Ok (acts.Call process call) in
@@ -126,23 +133,28 @@ act_from process text = word_at expect.Act (Some text) >>= λ w. process_act pro
 -- an entry is found by its word
 abbrev Finds : Parts → Type 0
 Finds p =
-    (process remaining : ℕ) (left : Unread) → process_act process (record { text = p.entry.word; remaining = remaining; after = left }) ≡ (entry_at p.entry left >>= λ call. Ok (acts.Call process call))
+    (process remaining : ℕ) (left : Unread) → process_act process (record { text = p.entry.word; remaining = remaining; after = left }) ≡
+    (entry_at p.entry left >>= λ call. Ok (acts.Call process call))
 
 finds : (call : Call) → Finds (parts call) × Unbroken (parts call).entry.word
 finds (calls.Close fd) = (λ process remaining left. refl, unbroken (codes "close") refl)
 finds other = (λ process remaining left. refl, unbroken (parts other).entry.word refl)
 
-parts_again : (process : ℕ) (p : Parts) (text : List ℕ) → Finds p → Unbroken p.entry.word → SpellsParts p text → act_from process text ≡ Ok (acts.Call process (made p.entry.fields p.entry.make p.values))
+parts_again : (process : ℕ) (p : Parts) (text : List ℕ) → Finds p → Unbroken p.entry.word → SpellsParts p text →
+    act_from process text ≡ Ok (acts.Call process (made p.entry.fields p.entry.make p.values))
 parts_again process p text finds one s =
     let left = left_of p.entry.fields p.values s.0 s.1 in
     let is : text ≡ p.entry.word ++ tail left.0 = s.2 ∙ ap (λ (r : List ℕ). p.entry.word ++ r) left.1 in
     ap (act_from process) is
-    ∙ ap (λ (parts : List ℕ × Unread). process_act process (record { text = parts.0; remaining = length (p.entry.word ++ tail left.0); after = parts.1 })) (cut_again p.entry.word left.0 one)
+    ∙ ap (λ (parts : List ℕ × Unread). process_act process (record { text = parts.0; remaining = length (p.entry.word ++ tail left.0); after = parts.1 }))
+    (cut_again p.entry.word left.0 one)
     ∙ finds process (length (p.entry.word ++ tail left.0)) left.0
-    ∙ ap (λ (r : Result Call BadWord). r >>= λ call. Ok (acts.Call process call)) (fields_again p.entry.fields p.entry.make p.values left.0 (subst (SpellsFields p.entry.fields p.values) left.1 s.1))
+    ∙ ap (λ (r : Result Call BadWord). r >>= λ call. Ok (acts.Call process call))
+    (fields_again p.entry.fields p.entry.make p.values left.0 (subst (SpellsFields p.entry.fields p.values) left.1 s.1))
 
 call_again : (process : ℕ) (call : Call) (text : List ℕ) → SpellsCall call text → act_from process text ≡ Ok (acts.Call process call)
-call_again process call text s = parts_again process (parts call) text (finds call).0 (finds call).1 s ∙ ap (λ (c : Call). done BadWord (acts.Call process c)) (made_again call)
+call_again process call text s = parts_again process (parts call) text (finds call).0 (finds call).1 s ∙ ap (λ (c : Call). done BadWord (acts.Call process c))
+    (made_again call)
 
 -- the act of a line that begins with a process
 line_again : (process : ℕ) (line text : List ℕ) → process < 2 ^ 32 → line ≡ process_word process ++ (32 ∷ text) → act_at (Some line) ≡ act_from process text

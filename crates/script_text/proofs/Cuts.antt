@@ -18,7 +18,8 @@ no_head false h = refl
 further : (mark i c : ℕ) (cs : List ℕ) → NoMark mark (suc i) (c ∷ cs) → NoMark mark i cs
 further mark i c cs h k low lt e = h (suc k) (omega arith) (omega arith) e
 
-pub cut_at : (mark : ℕ) (bytes : List ℕ) (i : ℕ) → NoMark mark i bytes → i < length bytes → Passes (is_byte mark) bytes i → cut mark bytes ≡ (take i bytes, Some (drop (suc i) bytes))
+pub cut_at : (mark : ℕ) (bytes : List ℕ) (i : ℕ) → NoMark mark i bytes → i < length bytes → Passes (is_byte mark) bytes i →
+    cut mark bytes ≡ (take i bytes, Some (drop (suc i) bytes))
 cut_at mark [] i h lt e = absurd (omega arith)
 cut_at mark (c ∷ cs) zero h lt e = rw e refl
 cut_at mark (c ∷ cs) (suc i) h lt e =

@@ -62,7 +62,8 @@ repeated_takes (c ∷ d ∷ f ∷ cs) bytes e =
             (pair_takes c d t.0 t.2).2,
             n.1,
             sym t.4,
-            spelled c d t.0 (f ∷ cs) t.2 ∙ ap (λ (x : ℕ). hex_pair t.0 ++ (x ∷ cs)) (eqb-true f 42 star.0) ∙ ap (λ (ds : List ℕ). hex_pair t.0 ++ (42 ∷ ds)) n.0,
+            spelled c d t.0 (f ∷ cs) t.2 ∙ ap (λ (x : ℕ). hex_pair t.0 ++ (x ∷ cs)) (eqb-true f 42 star.0) ∙
+                ap (λ (ds : List ℕ). hex_pair t.0 ++ (42 ∷ ds)) n.0,
           )
       | inr other ↦ absurd (let g = other.1 in cc)
     ]
@@ -78,9 +79,11 @@ repeated_again bytes text p =
     let byte : ℕ = p.0 in
     let count : ℕ = p.1 in
     let both : times (hex_byte (hex_glyph (byte / 16)) (hex_glyph (byte % 16))) (number_of GIVEN_BYTES_MAX (decimal count)) ≡ Some (replicate count byte) =
-    ap (λ (o : Option ℕ). times o (number_of GIVEN_BYTES_MAX (decimal count))) (pair_again byte p.2) ∙ ap (times (Some byte)) (number_again GIVEN_BYTES_MAX count (omega arith) p.3) in
+    ap (λ (o : Option ℕ). times o (number_of GIVEN_BYTES_MAX (decimal count))) (pair_again byte p.2) ∙
+    ap (times (Some byte)) (number_again GIVEN_BYTES_MAX count (omega arith) p.3) in
     let other : eqb (hex_glyph (byte / 16)) 120 ≡ false = ne_eqb _ 120 (not_x (byte / 16) (omega (arith, p.2))) in
-    ap data_of p.5 ∙ cond-false (eqb (hex_glyph (byte / 16)) 120) (hex_data (hex_glyph (byte % 16) ∷ 42 ∷ decimal count)) (repeated_data (hex_pair byte ++ (42 ∷ decimal count))) other ∙ both ∙ ap (λ (bs : List ℕ). Some bs) (sym p.4)
+    ap data_of p.5 ∙ cond-false (eqb (hex_glyph (byte / 16)) 120) (hex_data (hex_glyph (byte % 16) ∷ 42 ∷ decimal count))
+    (repeated_data (hex_pair byte ++ (42 ∷ decimal count))) other ∙ both ∙ ap (λ (bs : List ℕ). Some bs) (sym p.4)
 
 pub data_takes : (word bytes : List ℕ) → data_of word ≡ Some bytes → SpellsData bytes word
 data_takes [] bytes e = absurd cc
@@ -96,4 +99,7 @@ data_again bytes word (inr p) = repeated_again bytes word p
 
 pub data_unbroken : (bytes word : List ℕ) → SpellsData bytes word → Unbroken word
 data_unbroken bytes word (inl p) = subst Unbroken (sym p.2) (λ e. omega arith, pairs_unbroken bytes p.0 p.3)
-data_unbroken bytes word (inr p) = subst Unbroken (sym p.5) (glyph_unbroken (p.0 / 16), (glyph_unbroken (p.0 % 16), (λ e. omega arith, decimal_unbroken p.1 (omega (arith, p.3)))))
+data_unbroken bytes word (inr p) = subst Unbroken (sym p.5) (
+  glyph_unbroken (p.0 / 16),
+  (glyph_unbroken (p.0 % 16), (λ e. omega arith, decimal_unbroken p.1 (omega (arith, p.3)))),
+)

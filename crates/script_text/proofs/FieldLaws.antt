@@ -34,7 +34,8 @@ pub left_of : (ks : List FieldKind) (vs : Values ks) (text : List ℕ) → Spell
 left_of [] vs text s = (None, s)
 left_of (k ∷ ks) vs text s = (Some (s.0 ++ s.1), s.3)
 
-pub fields_again : (ks : List FieldKind) (make : Makes ks) (vs : Values ks) (left : Unread) → SpellsFields ks vs (tail left) → fields_at ks make left ≡ Ok (made ks make vs)
+pub fields_again : (ks : List FieldKind) (make : Makes ks) (vs : Values ks) (left : Unread) → SpellsFields ks vs (tail left) →
+    fields_at ks make left ≡ Ok (made ks make vs)
 fields_again [] make vs None s = refl
 fields_again [] make vs (Some bytes) s = absurd cc
 fields_again (k ∷ ks) make vs None s = absurd (let e = s.3 in cc)
@@ -42,5 +43,6 @@ fields_again (k ∷ ks) make vs (Some bytes) s =
     let rest = left_of ks vs.1 s.1 s.4 in
     let is : bytes ≡ s.0 ++ tail rest.0 = (let e = s.3 in cc) ∙ ap (λ (r : List ℕ). s.0 ++ r) rest.1 in
     ap (λ (b : List ℕ). fields_at (k ∷ ks) make (Some b)) is
-    ∙ ap (λ (r : Result (Value k × Unread) BadWord). r >>= λ x. fields_at ks (make x.0) x.1) (field_again (expected_of k) (value_of k) s.0 vs.0 rest.0 (value_unbroken k s.0 vs.0 s.2) (value_again k s.0 vs.0 s.2))
+    ∙ ap (λ (r : Result (Value k × Unread) BadWord). r >>= λ x. fields_at ks (make x.0) x.1)
+    (field_again (expected_of k) (value_of k) s.0 vs.0 rest.0 (value_unbroken k s.0 vs.0 s.2) (value_again k s.0 vs.0 s.2))
     ∙ fields_again ks (make vs.0) vs.1 rest.0 (subst (SpellsFields ks vs.1) rest.1 s.4)

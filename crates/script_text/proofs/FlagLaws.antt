@@ -80,11 +80,13 @@ abbrev pub IsFlags : List ℕ → ℕ → Type 0
 IsFlags word n = (word ≡ flags_word n) × (n < 128)
 
 -- a mode's letters before its end
-with_end : (front : List ℕ) (mode n : ℕ) (cs : List ℕ) → all_choices (length suffixes) (is_word front mode) ≡ true → after_mode mode cs ≡ Some n → IsFlags (front ++ cs) n
+with_end : (front : List ℕ) (mode n : ℕ) (cs : List ℕ) → all_choices (length suffixes) (is_word front mode) ≡ true → after_mode mode cs ≡ Some n →
+    IsFlags (front ++ cs) n
 with_end front mode n cs all e =
     let end = ends suffixes mode n cs e in
     let bits : ℕ = bits_with end.choice mode suffixes in
-    let parts = and_parts (bytes_eq (front ++ texts end.choice suffixes) (flags_word bits)) (ltb bits 128) (each_choice (length suffixes) (is_word front mode) end.choice all end.many) in
+    let parts = and_parts (bytes_eq (front ++ texts end.choice suffixes) (flags_word bits)) (ltb bits 128)
+    (each_choice (length suffixes) (is_word front mode) end.choice all end.many) in
     let spelled : front ++ texts end.choice suffixes ≡ flags_word bits = (bytes_eq-Decides (front ++ texts end.choice suffixes) (flags_word bits)).0 parts.0 in
     (ap (λ (t : List ℕ). front ++ t) end.text ∙ spelled ∙ ap flags_word (sym end.bits), subst (λ (m : ℕ). m < 128) (sym end.bits) (ltb-true bits 128 parts.1))
 

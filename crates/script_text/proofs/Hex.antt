@@ -16,4 +16,5 @@ unfolding encode_with
 encoded [] small = refl
 encoded (b ∷ bytes) small =
     let lt : b < 256 = small 0 in
-    rw (glyph (b / 16) (omega arith), glyph (b % 16) (omega arith)) (ap (λ ds. hex_glyph (b / 16) ∷ hex_glyph (b % 16) ∷ ds) (encoded bytes (λ i. small (suc i))))
+    rw (glyph (b / 16) (omega arith), glyph (b % 16) (omega arith))
+    (ap (λ ds. hex_glyph (b / 16) ∷ hex_glyph (b % 16) ∷ ds) (encoded bytes (λ i. small (suc i))))

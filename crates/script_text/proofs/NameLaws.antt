@@ -13,18 +13,26 @@ use Rattle.script_text.proofs.Numerals.{both_parts, chosen, pair_takes, pair_aga
 use Rattle.script_text.proofs.WordLaws.{Unbroken}
 
 -- a plain byte, and the others
-itself_takes : (c : ℕ) (cs : List ℕ) (bytes : List ℕ) → ((others : List ℕ) → decoded cs ≡ Some others → SpellsBytes others cs) → before (itself c) (decoded cs) ≡ Some bytes → SpellsBytes bytes (c ∷ cs)
+itself_takes : (c : ℕ) (cs : List ℕ) (bytes : List ℕ) → ((others : List ℕ) → decoded cs ≡ Some others → SpellsBytes others cs) →
+    before (itself c) (decoded cs) ≡ Some bytes → SpellsBytes bytes (c ∷ cs)
 itself_takes c cs bytes rest e =
     let p = both_parts (λ (b : ℕ) (bs : List ℕ). b ∷ bs) (itself c) (decoded cs) bytes e in
     let one = cond_some (is_plain c) c p.0 p.2 in
-    subst (λ (bs : List ℕ). SpellsBytes bs (c ∷ cs)) p.4 (inl (cs, subst (λ (b : ℕ). is_plain b ≡ true) one.1 one.0, ap (λ (b : ℕ). b ∷ cs) one.1, rest p.1 p.3))
+    subst (λ (bs : List ℕ). SpellsBytes bs (c ∷ cs)) p.4 (inl (
+      cs,
+      subst (λ (b : ℕ). is_plain b ≡ true) one.1 one.0,
+      ap (λ (b : ℕ). b ∷ cs) one.1,
+      rest p.1 p.3,
+    ))
 
 -- a byte by its digits, and the others
-digits_takes : (c d e : ℕ) (cs : List ℕ) (bytes : List ℕ) → c ≡ 37 → ((others : List ℕ) → decoded cs ≡ Some others → SpellsBytes others cs) → before (hex_byte d e) (decoded cs) ≡ Some bytes → SpellsBytes bytes (c ∷ d ∷ e ∷ cs)
+digits_takes : (c d e : ℕ) (cs : List ℕ) (bytes : List ℕ) → c ≡ 37 → ((others : List ℕ) → decoded cs ≡ Some others → SpellsBytes others cs) →
+    before (hex_byte d e) (decoded cs) ≡ Some bytes → SpellsBytes bytes (c ∷ d ∷ e ∷ cs)
 digits_takes c d e cs bytes percent rest h =
     let p = both_parts (λ (b : ℕ) (bs : List ℕ). b ∷ bs) (hex_byte d e) (decoded cs) bytes h in
     let pair = pair_takes d e p.0 p.2 in
-    let text : (c ∷ d ∷ e ∷ cs) ≡ 37 ∷ (hex_pair p.0 ++ cs) = ap (λ (x : ℕ). x ∷ d ∷ e ∷ cs) percent ∙ ap (λ (x : ℕ). 37 ∷ x ∷ e ∷ cs) pair.0 ∙ ap (λ (x : ℕ). 37 ∷ hex_glyph (p.0 / 16) ∷ x ∷ cs) pair.1 in
+    let text : (c ∷ d ∷ e ∷ cs) ≡ 37 ∷ (hex_pair p.0 ++ cs) = ap (λ (x : ℕ). x ∷ d ∷ e ∷ cs) percent ∙ ap (λ (x : ℕ). 37 ∷ x ∷ e ∷ cs) pair.0 ∙
+    ap (λ (x : ℕ). 37 ∷ hex_glyph (p.0 / 16) ∷ x ∷ cs) pair.1 in
     subst (λ (bs : List ℕ). SpellsBytes bs (c ∷ d ∷ e ∷ cs)) p.4 (inr (cs, pair.2, text, rest p.1 p.3))
 
 pub decoded_takes : (text bytes : List ℕ) → decoded text ≡ Some bytes → SpellsBytes bytes text
@@ -73,7 +81,8 @@ plain_unbroken c h e =
 bytes_unbroken : (bytes text : List ℕ) → SpellsBytes bytes text → Unbroken text
 bytes_unbroken [] text e = rw e tt
 bytes_unbroken (b ∷ bs) text (inl p) = subst Unbroken (sym p.2) (plain_unbroken b p.1, bytes_unbroken bs p.0 p.3)
-bytes_unbroken (b ∷ bs) text (inr p) = subst Unbroken (sym p.2) (λ e. omega arith, (glyph_unbroken (b / 16), (glyph_unbroken (b % 16), bytes_unbroken bs p.0 p.3)))
+bytes_unbroken (b ∷ bs) text (inr p) = subst Unbroken (sym p.2)
+    (λ e. omega arith, (glyph_unbroken (b / 16), (glyph_unbroken (b % 16), bytes_unbroken bs p.0 p.3)))
 
 pub name_unbroken : (name word : List ℕ) → SpellsName name word → Unbroken word
 name_unbroken [] word e = subst Unbroken (sym e) (λ h. omega arith, tt)
@@ -114,11 +123,13 @@ nonempty (c ∷ cs) name lt e = omega arith
 longer_name : (word name : List ℕ) → word ≢ 37 ∷ [] → 0 < length word → decoded word ≡ Some name → length name ≤ GIVEN_NAME_MAX → name_of word ≡ Some name
 longer_name [] name other lt e h = absurd (omega arith)
 longer_name (c ∷ []) name other lt e h =
-    cond-false (eqb c 37) (Some []) (at_most GIVEN_NAME_MAX (decoded (c ∷ []))) (ne_eqb c 37 (λ is. other (ap (λ (x : ℕ). x ∷ []) is))) ∙ at_most_again GIVEN_NAME_MAX (decoded (c ∷ [])) name e h
+    cond-false (eqb c 37) (Some []) (at_most GIVEN_NAME_MAX (decoded (c ∷ []))) (ne_eqb c 37 (λ is. other (ap (λ (x : ℕ). x ∷ []) is))) ∙
+    at_most_again GIVEN_NAME_MAX (decoded (c ∷ [])) name e h
 longer_name (c ∷ d ∷ cs) name other lt e h = at_most_again GIVEN_NAME_MAX (decoded (c ∷ d ∷ cs)) name e h
 
 pub name_again : (name word : List ℕ) → SpellsName name word → name_of word ≡ Some name
 name_again [] word e = ap name_of e
 name_again (b ∷ bs) word p =
     let e : decoded word ≡ Some (b ∷ bs) = decoded_again (b ∷ bs) word p.1 in
-    longer_name word (b ∷ bs) (λ (is : word ≡ 37 ∷ []). let f : None ≡ Some (b ∷ bs) = sym (ap decoded is) ∙ e in cc) (nonempty word (b ∷ bs) (omega arith) e) e p.0
+    longer_name word (b ∷ bs) (λ (is : word ≡ 37 ∷ []). let f : None ≡ Some (b ∷ bs) = sym (ap decoded is) ∙ e in cc) (nonempty word (b ∷ bs) (omega arith) e) e
+    p.0

@@ -19,7 +19,8 @@ same_first : (all : List ℕ → Option (List ℕ)) (o : Option ℕ) (cs : List 
 same_first all None cs = refl
 same_first all (Some byte) cs = refl
 
-either : (b : Bool) (x y : Option ℕ) (cs ds : List ℕ) → cond b (before x (decoded cs)) (before y (decoded ds)) ≡ from_first decoded (cond b (with_rest x cs) (with_rest y ds))
+either : (b : Bool) (x y : Option ℕ) (cs ds : List ℕ) → cond b (before x (decoded cs)) (before y (decoded ds)) ≡ from_first decoded
+    (cond b (with_rest x cs) (with_rest y ds))
 either true x y cs ds = same_first decoded x cs
 either false x y cs ds = same_first decoded y ds
 
@@ -49,11 +50,13 @@ joined_more front byte None = refl
 joined_more front byte (Some bytes) = ap (λ (b : List ℕ). Some b) (simp append_assoc)
 
 -- one byte further
-pub goes_on : (all : List ℕ → Option (List ℕ)) (front bytes : List ℕ) (byte : ℕ) (after : List ℕ) (total : Option (List ℕ)) → all bytes ≡ from_first all (Some (byte, after)) → joined front (all bytes) ≡ total → joined (front ++ byte ∷ []) (all after) ≡ total
+pub goes_on : (all : List ℕ → Option (List ℕ)) (front bytes : List ℕ) (byte : ℕ) (after : List ℕ) (total : Option (List ℕ)) →
+    all bytes ≡ from_first all (Some (byte, after)) → joined front (all bytes) ≡ total → joined (front ++ byte ∷ []) (all after) ≡ total
 goes_on all front bytes byte after total h so_far = joined_more front byte (all after) ∙ ap (joined front) (sym h) ∙ so_far
 
 -- how many bytes the digits stand for
-halves : (o : Option ℕ) (rest : Option (List ℕ)) (bytes : List ℕ) (n : ℕ) → ((others : List ℕ) → rest ≡ Some others → length others + length others ≡ n) → before o rest ≡ Some bytes → length bytes + length bytes ≡ n + 2
+halves : (o : Option ℕ) (rest : Option (List ℕ)) (bytes : List ℕ) (n : ℕ) → ((others : List ℕ) → rest ≡ Some others → length others + length others ≡ n) →
+    before o rest ≡ Some bytes → length bytes + length bytes ≡ n + 2
 halves None rest bytes n h e = absurd cc
 halves (Some b) None bytes n h e = absurd cc
 halves (Some b) (Some others) bytes n h e =

@@ -26,14 +26,16 @@ pub digit_on : (n m c : ℕ) (cs : List ℕ) → is_ascii_digit c ≡ true → m
     → digits_on small_most m (cut space cs).0 ≡ digits_on small_most n (cut space (c ∷ cs)).0
 digit_on n m c cs h is small =
     let fits : leb (n * 10 + (c - 48)) small_most ≡ true = le-leb _ _ (omega (arith, is, small)) in
-    sym (ap (λ (p : List ℕ × Unread). digits_on small_most n p.0) (digit_cut c cs h) ∙ rw (h, fits) (ap (λ (k : ℕ). digits_on small_most k (cut 32 cs).0) (sym is)))
+    sym (ap (λ (p : List ℕ × Unread). digits_on small_most n p.0) (digit_cut c cs h) ∙
+    rw (h, fits) (ap (λ (k : ℕ). digits_on small_most k (cut 32 cs).0) (sym is)))
 
 -- and so is what is left after it
 pub digit_rest : (c : ℕ) (cs : List ℕ) → is_ascii_digit c ≡ true → (cut space cs).1 ≡ (cut space (c ∷ cs)).1
 digit_rest c cs h = sym (ap (λ (p : List ℕ × Unread). p.1) (digit_cut c cs h))
 
 -- a number that begins with another digit than 0
-pub begins : (n m c : ℕ) (cs : List ℕ) (after : Unread) → is_ascii_digit c ≡ true → (c ≡ 48 → ⊥) → n ≡ 0 * 10 + (c - 48) → n ≤ small_most → DigitsAhead n cs m after → NumberAhead (c ∷ cs) m after
+pub begins : (n m c : ℕ) (cs : List ℕ) (after : Unread) → is_ascii_digit c ≡ true → (c ≡ 48 → ⊥) → n ≡ 0 * 10 + (c - 48) → n ≤ small_most →
+    DigitsAhead n cs m after → NumberAhead (c ∷ cs) m after
 begins n m c cs after h other is small d =
     let first : digits_on small_most 0 (c ∷ (cut 32 cs).0) ≡ digits_on small_most n (cut 32 cs).0 =
     ap (λ (p : List ℕ × Unread). digits_on small_most 0 p.0) (sym (digit_cut c cs h)) ∙ sym (digit_on 0 n c cs h is small) in
@@ -61,20 +63,25 @@ pub count_ahead : (bytes : List ℕ) (n : ℕ) (after : Unread) → NumberAhead 
 count_ahead bytes n after a =
     let s = spelled bytes n after a in
     ap (λ (b : List ℕ). field expect.Count count_of (Some b)) s.0
-    ∙ field_again expect.Count count_of (decimal n) n after (decimal_unbroken n (omega (arith, s.1))) (number_again (2 ^ 32 - 1) n (omega arith) (omega (arith, s.1)))
+    ∙ field_again expect.Count count_of (decimal n) n after (decimal_unbroken n (omega (arith, s.1)))
+    (number_again (2 ^ 32 - 1) n (omega arith) (omega (arith, s.1)))
 
-pub descriptor_ahead : (bytes : List ℕ) (n : ℕ) (after : Unread) → NumberAhead bytes n after → field expect.Descriptor descriptor_of (Some bytes) ≡ Ok (pos n, after)
+pub descriptor_ahead : (bytes : List ℕ) (n : ℕ) (after : Unread) → NumberAhead bytes n after → field expect.Descriptor descriptor_of (Some bytes) ≡ Ok
+    (pos n, after)
 descriptor_ahead bytes n after a =
     let s = spelled bytes n after a in
     ap (λ (b : List ℕ). field expect.Descriptor descriptor_of (Some b)) s.0
-    ∙ field_again expect.Descriptor descriptor_of (decimal n) (pos n) after (decimal_unbroken n (omega (arith, s.1))) (signed_again (2 ^ 31 - 1) (pos n) (omega arith) s.1)
+    ∙ field_again expect.Descriptor descriptor_of (decimal n) (pos n) after (decimal_unbroken n (omega (arith, s.1)))
+    (signed_again (2 ^ 31 - 1) (pos n) (omega arith) s.1)
 
-pub position_ahead : (bytes : List ℕ) (n : ℕ) (after : Unread) → NumberAhead bytes n after → field expect.Position position_of (Some bytes) ≡ Ok (to_z w64 n, after)
+pub position_ahead : (bytes : List ℕ) (n : ℕ) (after : Unread) → NumberAhead bytes n after → field expect.Position position_of (Some bytes) ≡ Ok
+    (to_z w64 n, after)
 position_ahead bytes n after a =
     let s = spelled bytes n after a in
     rw (to_z_pos w64 n (omega (arith, s.1)))
     (ap (λ (b : List ℕ). field expect.Position position_of (Some b)) s.0
-    ∙ field_again expect.Position position_of (decimal n) (pos n) after (decimal_unbroken n (omega (arith, s.1))) (signed_again (2 ^ 63 - 1) (pos n) (omega arith) (omega (arith, s.1))))
+    ∙ field_again expect.Position position_of (decimal n) (pos n) after (decimal_unbroken n (omega (arith, s.1)))
+    (signed_again (2 ^ 63 - 1) (pos n) (omega arith) (omega (arith, s.1))))
 
 pub process_ahead : (c : ℕ) (bytes : List ℕ) (n : ℕ) (after : Unread) → c ≡ 112 → NumberAhead bytes n after → act_at (Some (c ∷ bytes)) ≡ act_after n after
 process_ahead c bytes n after is a =

@@ -132,7 +132,8 @@ digit_again : (d : ℕ) → d < 16 → hex_digit (hex_glyph d) ≡ Some d
 digit_again d h = grind (arith, nat_tests)
 
 -- what is made of two values has both
-pub both_parts : {A B C : Type 0} (f : A → B → C) (o : Option A) (p : Option B) (z : C) → both f o p ≡ Some z → (x : A) × (y : B) × (o ≡ Some x) × (p ≡ Some y) × (f x y ≡ z)
+pub both_parts : {A B C : Type 0} (f : A → B → C) (o : Option A) (p : Option B) (z : C) → both f o p ≡ Some z →
+    (x : A) × (y : B) × (o ≡ Some x) × (p ≡ Some y) × (f x y ≡ z)
 both_parts f None p z e = absurd cc
 both_parts f (Some x) None z e = absurd cc
 both_parts f (Some x) (Some y) z e = (x, y, refl, refl, cc)

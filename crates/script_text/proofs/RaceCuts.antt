@@ -35,8 +35,10 @@ opened [] e = absurd cc
 opened (c ∷ cs) e = rw e refl
 
 -- where one is asked for, the cut is here
-pub found : (start : ℕ) (line : List ℕ) → opens_answer (drop start line) ≡ true → in_front (take start line) (cut_answer (drop start line)) ≡ (take start line, Some (drop 3 (drop start line)))
-found start line e = ap (in_front (take start line)) (opened (drop start line) e) ∙ ap (λ (xs : List ℕ). (xs, Some (drop 3 (drop start line)))) (append-nil (take start line))
+pub found : (start : ℕ) (line : List ℕ) → opens_answer (drop start line) ≡ true → in_front (take start line) (cut_answer (drop start line)) ≡
+    (take start line, Some (drop 3 (drop start line)))
+found start line e = ap (in_front (take start line)) (opened (drop start line) e) ∙ ap (λ (xs : List ℕ). (xs, Some (drop 3 (drop start line))))
+    (append-nil (take start line))
 
 -- nothing is asked for up to the end
 pub ends : (line : List ℕ) → in_front (take (length line) line) (cut_answer (drop (length line) line)) ≡ (line, None)

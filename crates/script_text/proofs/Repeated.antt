@@ -15,7 +15,8 @@ all_equal (suc n) b = rw (equal b) (all_equal n b)
 -- more than are written out are a byte and a count
 pub many_same : (n b : ℕ) → written_out_max < n → data_word (replicate n b) ≡ hex_pair b ++ (codes "*" ++ decimal n)
 many_same zero b lt = absurd (omega arith)
-many_same (suc n) b lt = rw (length-replicate n b, all_equal (suc n) b, lt-ltb 16 (suc n) lt) (ap (λ (count : ℕ). hex_pair b ++ (codes "*" ++ decimal count)) (length-replicate (suc n) b))
+many_same (suc n) b lt = rw (length-replicate n b, all_equal (suc n) b, lt-ltb 16 (suc n) lt) (ap (λ (count : ℕ). hex_pair b ++ (codes "*" ++ decimal count))
+    (length-replicate (suc n) b))
 
 -- the others are written out
 pub few_same : (n b : ℕ) → n ≤ written_out_max → data_word (replicate n b) ≡ codes "x" ++ flat_map hex_pair (replicate n b)

@@ -24,7 +24,8 @@ written_out_room bytes e = let p : length (data_word bytes) ≡ 2 * length bytes
 -- what stands in memory
 text_short : (byte : Option ℕ) (bytes : List ℕ) → length bytes ≤ GIVEN_BYTES_MAX → length (data_text byte bytes) ≤ 2 * length bytes + 8
 text_short None bytes few = let p : length (flat_map hex_pair bytes) ≡ 2 * length bytes = pairs_long bytes in omega arith
-text_short (Some b) bytes few = let p : length (decimal (length bytes)) ≤ 5 = length-decimal-le 5 (length bytes) (omega arith) (omega arith) (omega arith) in omega arith
+text_short (Some b) bytes few = let p : length (decimal (length bytes)) ≤ 5 = length-decimal-le 5 (length bytes) (omega arith) (omega arith) (omega arith) in
+    omega arith
 
 pub slice_room : (bytes : List ℕ) → length bytes ≤ GIVEN_BYTES_MAX → data_room bytes ≤ 2 * length bytes + 64
 slice_room bytes few = let p : length (data_word bytes) ≤ 2 * length bytes + 8 = text_short (one_byte bytes) bytes few in omega arith

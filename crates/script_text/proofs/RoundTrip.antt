@@ -23,7 +23,8 @@ unfolding call_text
 call_written call h = (fields_text (parts call).entry.fields (parts call).values, fields_written (parts call).entry.fields (parts call).values h, refl)
 
 -- a call that is written after its process is read again
-pub read_back : (process : ℕ) (call : Call) → process < 2 ^ 32 → IsScriptCall call → reading (process_word process ++ codes " " ++ call_text call) ≡ Ok (acts.Call process call)
+pub read_back : (process : ℕ) (call : Call) → process < 2 ^ 32 → IsScriptCall call → reading (process_word process ++ codes " " ++ call_text call) ≡ Ok
+    (acts.Call process call)
 read_back process call h k =
     reading_again (process_word process ++ codes " " ++ call_text call) (acts.Call process call)
     (call_text call, h, call_written call k, append_assoc (process_word process) (codes " ") (call_text call))
@@ -31,8 +32,11 @@ read_back process call h k =
 -- an act that is written as a line of a script is read again
 pub act_read_back : (act : ScriptAct) → IsScriptAct act → reading (script_line act) ≡ Ok act
 act_read_back acts.Join h = refl
-act_read_back (acts.Attach process) h = reading_again (script_line (acts.Attach process)) (acts.Attach process) (h, append_assoc (process_word process) (codes " ") (codes "attach"))
+act_read_back (acts.Attach process) h = reading_again (script_line (acts.Attach process)) (acts.Attach process)
+    (h, append_assoc (process_word process) (codes " ") (codes "attach"))
 act_read_back (acts.Call process call) h = read_back process call h.0 h.1
-act_read_back (acts.Resume process) h = reading_again (script_line (acts.Resume process)) (acts.Resume process) (h, append_assoc (process_word process) (codes " ") (codes "resume"))
-act_read_back (acts.Exit process) h = reading_again (script_line (acts.Exit process)) (acts.Exit process) (h, append_assoc (process_word process) (codes " ") (codes "exit"))
+act_read_back (acts.Resume process) h = reading_again (script_line (acts.Resume process)) (acts.Resume process)
+    (h, append_assoc (process_word process) (codes " ") (codes "resume"))
+act_read_back (acts.Exit process) h = reading_again (script_line (acts.Exit process)) (acts.Exit process)
+    (h, append_assoc (process_word process) (codes " ") (codes "exit"))
 act_read_back acts.CloseRun h = refl

@@ -13,11 +13,13 @@ use Rattle.script_text.specs.Spellings.{SpellsLine, SpellsLines, SpellsScript}
 use Rattle.script_text.proofs.WordLaws.{ok_is, bind_ok}
 use Rattle.script_text.proofs.CallLaws.{reading_takes, reading_again}
 
-followed_parts : (front acts : List ScriptAct) (read : Result (List ScriptAct) ScriptFault) → followed front read ≡ Ok acts → (rest : List ScriptAct) × (read ≡ Ok rest) × (front ++ rest ≡ acts)
+followed_parts : (front acts : List ScriptAct) (read : Result (List ScriptAct) ScriptFault) → followed front read ≡ Ok acts →
+    (rest : List ScriptAct) × (read ≡ Ok rest) × (front ++ rest ≡ acts)
 followed_parts front acts (Ok rest) e = (rest, refl, ok_is (front ++ rest) acts e)
 followed_parts front acts (Err d) e = absurd cc
 
-numbered_takes : (n : ℕ) (read : Result ScriptAct BadColumn) (acts : List ScriptAct) → numbered n read ≡ Ok acts → (act : ScriptAct) × (read ≡ Ok act) × (act ∷ [] ≡ acts)
+numbered_takes : (n : ℕ) (read : Result ScriptAct BadColumn) (acts : List ScriptAct) → numbered n read ≡ Ok acts →
+    (act : ScriptAct) × (read ≡ Ok act) × (act ∷ [] ≡ acts)
 numbered_takes n (Ok act) acts e = (act, refl, ok_is (act ∷ []) acts e)
 numbered_takes n (Err bad) acts e = absurd cc
 
@@ -31,10 +33,14 @@ lines_takes : (n : ℕ) (lines : List (List ℕ)) (acts : List ScriptAct) → li
 lines_takes n [] acts e = sym (ok_is [] acts e)
 lines_takes n (line ∷ lines) acts e =
     let first = bind_ok (line_acts n line) (λ found. followed found (lines_acts (n + 1) lines)) acts e in
-    let others = followed_parts first.0 acts (lines_acts (n + 1) lines) first.2 in
-    (others.0, subst (λ (a : List ScriptAct). SpellsLine a others.0 line) others.2 (line_takes n line first.0 others.0 first.1), lines_takes (n + 1) lines others.0 others.1)
+    let others = followed_parts first.0 acts (lines_acts (n + 1) lines) first.2 in (
+      others.0,
+      subst (λ (a : List ScriptAct). SpellsLine a others.0 line) others.2 (line_takes n line first.0 others.0 first.1),
+      lines_takes (n + 1) lines others.0 others.1,
+    )
 
-line_again : (n : ℕ) (line : List ℕ) (acts rest : List ScriptAct) (others : Result (List ScriptAct) ScriptFault) → SpellsLine acts rest line → others ≡ Ok rest → (line_acts n line >>= λ found. followed found others) ≡ Ok acts
+line_again : (n : ℕ) (line : List ℕ) (acts rest : List ScriptAct) (others : Result (List ScriptAct) ScriptFault) → SpellsLine acts rest line →
+    others ≡ Ok rest → (line_acts n line >>= λ found. followed found others) ≡ Ok acts
 line_again n [] acts rest others s e = ap (followed []) e ∙ ap (λ (a : List ScriptAct). Ok a) (sym s)
 line_again n (c ∷ cs) acts rest others s e =
     ap (λ (r : Result ScriptAct BadColumn). numbered n r >>= λ found. followed found others) (reading_again (c ∷ cs) s.0 s.2)

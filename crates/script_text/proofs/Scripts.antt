@@ -16,7 +16,8 @@ abbrev pub lines_of : List ℕ → List (List ℕ)
 lines_of bytes = slice_split (λ c. eqb c 10) bytes
 
 either : (b : Bool) (c : ℕ) (cs : List ℕ) → lines_of cs ≡ (cut 10 cs).0 ∷ left_lines (cut 10 cs).1
-    → cond b ([] ∷ lines_of cs) (onto_first c (lines_of cs)) ≡ (let parts : List ℕ × Unread = cond b ([], Some cs) (onto c (cut 10 cs)) in parts.0 ∷ left_lines parts.1)
+    → cond b ([] ∷ lines_of cs) (onto_first c (lines_of cs)) ≡ (let parts : List ℕ × Unread = cond b ([], Some cs) (onto c (cut 10 cs)) in
+    parts.0 ∷ left_lines parts.1)
 either true c cs h = refl
 either false c cs h = ap (onto_first c) h
 
@@ -29,12 +30,14 @@ followed_none : (read : Result (List ScriptAct) ScriptFault) → followed [] rea
 followed_none (Ok others) = refl
 followed_none (Err fault) = refl
 
-at_first : (n : ℕ) (bytes line : List ℕ) (after : Unread) → (line, after) ≡ cut 10 bytes → lines_acts n (lines_of bytes) ≡ (line_acts n line >>= λ acts. followed acts (lines_acts (n + 1) (left_lines after)))
+at_first : (n : ℕ) (bytes line : List ℕ) (after : Unread) → (line, after) ≡ cut 10 bytes →
+    lines_acts n (lines_of bytes) ≡ (line_acts n line >>= λ acts. followed acts (lines_acts (n + 1) (left_lines after)))
 at_first n bytes line after e =
     ap (lines_acts n) (first_line bytes) ∙ ap (λ (p : List ℕ × Unread). line_acts n p.0 >>= λ acts. followed acts (lines_acts (n + 1) (left_lines p.1))) (sym e)
 
 -- an empty line has no act
-pub empty_line : (n : ℕ) (bytes line : List ℕ) (after : Unread) → (line, after) ≡ cut 10 bytes → eqb (length line) 0 ≡ true → lines_acts n (lines_of bytes) ≡ lines_acts (n + 1) (left_lines after)
+pub empty_line : (n : ℕ) (bytes line : List ℕ) (after : Unread) → (line, after) ≡ cut 10 bytes → eqb (length line) 0 ≡ true →
+    lines_acts n (lines_of bytes) ≡ lines_acts (n + 1) (left_lines after)
 empty_line n bytes [] after e none = at_first n bytes [] after e ∙ followed_none (lines_acts (n + 1) (left_lines after))
 empty_line n bytes (c ∷ cs) after e none = absurd (omega (arith, eqb-true (length (c ∷ cs)) 0 none))
 
@@ -43,17 +46,22 @@ full_line n [] some = absurd cc
 full_line n (c ∷ cs) some = refl
 
 -- a line that is not empty has its act, before those of the lines after it
-pub act_first : (n : ℕ) (bytes line : List ℕ) (after : Unread) (act : ScriptAct) → (line, after) ≡ cut 10 bytes → eqb (length line) 0 ≡ false → numbered n (reading line) ≡ Ok (act ∷ [])
+pub act_first : (n : ℕ) (bytes line : List ℕ) (after : Unread) (act : ScriptAct) → (line, after) ≡ cut 10 bytes → eqb (length line) 0 ≡ false →
+    numbered n (reading line) ≡ Ok (act ∷ [])
     → lines_acts n (lines_of bytes) ≡ followed (act ∷ []) (lines_acts (n + 1) (left_lines after))
 act_first n bytes line after act e some is =
-    at_first n bytes line after e ∙ ap (λ (r : Result (List ScriptAct) ScriptFault). r >>= λ acts. followed acts (lines_acts (n + 1) (left_lines after))) (full_line n line some ∙ is)
+    at_first n bytes line after e ∙ ap (λ (r : Result (List ScriptAct) ScriptFault). r >>= λ acts. followed acts (lines_acts (n + 1) (left_lines after)))
+    (full_line n line some ∙ is)
 
-fault_first : (fault : ScriptFault) (n : ℕ) (bytes line : List ℕ) (after : Unread) → (line, after) ≡ cut 10 bytes → eqb (length line) 0 ≡ false → numbered n (reading line) ≡ Err fault → lines_acts n (lines_of bytes) ≡ Err fault
+fault_first : (fault : ScriptFault) (n : ℕ) (bytes line : List ℕ) (after : Unread) → (line, after) ≡ cut 10 bytes → eqb (length line) 0 ≡ false →
+    numbered n (reading line) ≡ Err fault → lines_acts n (lines_of bytes) ≡ Err fault
 fault_first fault n bytes line after e some is =
-    at_first n bytes line after e ∙ ap (λ (r : Result (List ScriptAct) ScriptFault). r >>= λ acts. followed acts (lines_acts (n + 1) (left_lines after))) (full_line n line some ∙ is)
+    at_first n bytes line after e ∙ ap (λ (r : Result (List ScriptAct) ScriptFault). r >>= λ acts. followed acts (lines_acts (n + 1) (left_lines after)))
+    (full_line n line some ∙ is)
 
 -- its fault is that of all lines
-pub fails : (fault : ScriptFault) (n : ℕ) (bytes line : List ℕ) (after : Unread) → (line, after) ≡ cut 10 bytes → eqb (length line) 0 ≡ false → ScriptFails fault (numbered n (reading line)) → ScriptFails fault (lines_acts n (lines_of bytes))
+pub fails : (fault : ScriptFault) (n : ℕ) (bytes line : List ℕ) (after : Unread) → (line, after) ≡ cut 10 bytes → eqb (length line) 0 ≡ false →
+    ScriptFails fault (numbered n (reading line)) → ScriptFails fault (lines_acts n (lines_of bytes))
 fails faults.NoMemory n bytes line after e some is = tt
 fails (faults.BadLine l c x) n bytes line after e some is = fault_first (faults.BadLine l c x) n bytes line after e some is
 fails faults.TooLong n bytes line after e some is = fault_first faults.TooLong n bytes line after e some is

@@ -70,19 +70,27 @@ pub record Field {A : Type 0} (value : List ℕ → Option A) (left : Unread) (a
   pub is : left ≡ Some (word ++ tail after)
   pub has : value word ≡ Some a
 
-pub valued_parts : {A : Type 0} (expected : Expected) (o : Option A) (remaining : ℕ) (after rest : Unread) (a : A) → valued expected o remaining after ≡ Ok (a, rest) → (o ≡ Some a) × (after ≡ rest)
+pub valued_parts : {A : Type 0} (expected : Expected) (o : Option A) (remaining : ℕ) (after rest : Unread) (a : A) →
+    valued expected o remaining after ≡ Ok (a, rest) → (o ≡ Some a) × (after ≡ rest)
 valued_parts expected None remaining after rest a e = absurd cc
 valued_parts {A} expected (Some b) remaining after rest a e =
     let both : (b, after) ≡ (a, rest) = cc in
     (ap (λ (p : A × Unread). Some p.0) both, ap (λ (p : A × Unread). p.1) both)
 
-pub field_takes : {A : Type 0} (expected : Expected) (value : List ℕ → Option A) (left : Unread) (a : A) (after : Unread) → field expected value left ≡ Ok (a, after) → Field value left a after
+pub field_takes : {A : Type 0} (expected : Expected) (value : List ℕ → Option A) (left : Unread) (a : A) (after : Unread) →
+    field expected value left ≡ Ok (a, after) → Field value left a after
 field_takes expected value None a after e = absurd cc
 field_takes expected value (Some bytes) a after e =
     let parts = valued_parts expected (value (cut 32 bytes).0) (length bytes) (cut 32 bytes).1 after a e in
-    record { word = (cut 32 bytes).0; is = ap (λ (b : List ℕ). Some b) (cut_joined bytes ∙ ap (λ (l : Unread). (cut 32 bytes).0 ++ tail l) parts.1); has = parts.0 }
+    record {
+      word = (cut 32 bytes).0;
+      is = ap (λ (b : List ℕ). Some b) (cut_joined bytes ∙ ap (λ (l : Unread). (cut 32 bytes).0 ++ tail l) parts.1);
+      has =
+          parts.0;
+    }
 
-pub field_again : {A : Type 0} (expected : Expected) (value : List ℕ → Option A) (word : List ℕ) (a : A) (after : Unread) → Unbroken word → value word ≡ Some a → field expected value (Some (word ++ tail after)) ≡ Ok (a, after)
+pub field_again : {A : Type 0} (expected : Expected) (value : List ℕ → Option A) (word : List ℕ) (a : A) (after : Unread) → Unbroken word →
+    value word ≡ Some a → field expected value (Some (word ++ tail after)) ≡ Ok (a, after)
 field_again expected value word a after h e =
     rw (cut_again word after h, e) refl
 

@@ -6,7 +6,10 @@ use Rattle.std.proofs.Math.Seq.{take-length}
 use Rattle.std.proofs.lemmas.Slice.Eq.{bytes_eq-Decides}
 
 turned : (a b : List ℕ) → bytes_eq a b ≡ bytes_eq b a
-turned a b = one_answer {P = a ≡ b} (bytes_eq a b) (bytes_eq b a) (bytes_eq-Decides a b) ((λ t. sym ((bytes_eq-Decides b a).0 t)), (λ e. (bytes_eq-Decides b a).1 (sym e)))
+turned a b = one_answer {P = a ≡ b} (bytes_eq a b) (bytes_eq b a) (bytes_eq-Decides a b) (
+  (λ t. sym ((bytes_eq-Decides b a).0 t)),
+  (λ e. (bytes_eq-Decides b a).1 (sym e)),
+)
 
 -- the front of a word as long as the text is the whole of it
 pub same_length : (a b : List ℕ) → length a ≡ length b → bytes_eq b (take (length b) a) ≡ bytes_eq a b

@@ -67,7 +67,8 @@ data_word bytes = data_text (one_byte bytes) bytes
 
 -- the mode, by its two flags
 abbrev pub mode_word : ℕ → List ℕ
-mode_word bits = if bits_have bits reading then if bits_have bits writing then codes "rw" else codes "r" else if bits_have bits writing then codes "w" else codes "-"
+mode_word bits = if bits_have bits reading then if bits_have bits writing then codes "rw" else codes "r" else if bits_have bits writing then codes "w" else
+    codes "-"
 
 -- a suffix, where its flag is set
 abbrev pub suffix : ℕ → ℕ → List ℕ → List ℕ
@@ -76,7 +77,8 @@ suffix bits flag text = if bits_have bits flag then text else []
 -- flags: the mode, and then the suffixes
 abbrev pub flags_word : ℕ → List ℕ
 flags_word bits =
-    mode_word bits ++ suffix bits creat (codes ",creat") ++ suffix bits excl (codes ",excl") ++ suffix bits trunc (codes ",trunc") ++ suffix bits appending (codes ",append")
+    mode_word bits ++ suffix bits creat (codes ",creat") ++ suffix bits excl (codes ",excl") ++ suffix bits trunc (codes ",trunc") ++ suffix bits appending
+    (codes ",append")
     ++ suffix bits nonblocking (codes ",nonblock")
 
 -- the base of an offset
@@ -164,7 +166,8 @@ outcome_text (outcomes.Part moved) = codes "part " ++ decimal moved
 
 -- a record's line: the place, the actor, the act, = and the outcome
 abbrev pub record_line : ℕ → Record → List ℕ
-record_line place r = decimal place ++ codes " " ++ actor_word r.actor r.act ++ codes " " ++ act_text r.act ++ codes " = " ++ outcome_text r.outcome ++ codes "\n"
+record_line place r = decimal place ++ codes " " ++ actor_word r.actor r.act ++ codes " " ++ act_text r.act ++ codes " = " ++ outcome_text r.outcome ++ codes
+    "\n"
 
 -- an act of a script, after the actor
 abbrev pub script_act_text : ScriptAct → List ℕ
@@ -221,4 +224,5 @@ still_line actor act = codes "- " ++ script_actor_word actor act ++ codes " " ++
 
 -- the last line: the records, and the bytes in and out
 abbrev pub totals_line : ℕ → ℕ → ℕ → List ℕ
-totals_line records bytes_in bytes_out = codes "records " ++ decimal records ++ codes " in " ++ decimal bytes_in ++ codes " out " ++ decimal bytes_out ++ codes "\n"
+totals_line records bytes_in bytes_out = codes "records " ++ decimal records ++ codes " in " ++ decimal bytes_in ++ codes " out " ++ decimal bytes_out ++ codes
+    "\n"

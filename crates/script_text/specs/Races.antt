@@ -119,7 +119,8 @@ with_setup acts (Err fault) = Err fault
 -- the lines that begin with line n: acts, a line `race`, and calls; or the first fault
 abbrev pub lines_race : ℕ → List (List ℕ) → Result RaceScript RaceFault
 lines_race n [] = Err faults.NoRace
-lines_race n (line ∷ lines) = if bytes_eq line (codes "race") then race_of (lines_calls (n + 1) lines) else (line_setup n line >>= λ acts. with_setup acts (lines_race (n + 1) lines))
+lines_race n (line ∷ lines) = if bytes_eq line (codes "race") then race_of (lines_calls (n + 1) lines) else
+    (line_setup n line >>= λ acts. with_setup acts (lines_race (n + 1) lines))
 
 -- the script of a race that a text is, or its first fault; one that is too long has that fault, whatever its lines are
 abbrev pub race_script : List ℕ → Result RaceScript RaceFault

@@ -40,4 +40,5 @@ after_r (c ∷ cs) = if c == byte_of (codes "w") then after_mode (bit_or reading
 -- flags: r, w, rw or -, and then suffixes
 abbrev pub flags_of : List ℕ → Option ℕ
 flags_of [] = None
-flags_of (c ∷ cs) = if c == byte_of (codes "r") then after_r cs else if c == byte_of (codes "w") then after_mode writing cs else if c == byte_of (codes "-") then after_mode 0 cs else None
+flags_of (c ∷ cs) = if c == byte_of (codes "r") then after_r cs else if c == byte_of (codes "w") then after_mode writing cs else if c == byte_of
+    (codes "-") then after_mode 0 cs else None

@@ -38,7 +38,8 @@ SpellsDigits bytes text = (rest : List ℕ) × (length bytes ≤ GIVEN_BYTES_MAX
 
 -- a byte, a * and how many times it stands, as often as a call may give bytes at most
 abbrev pub SpellsRepeated : List ℕ → List ℕ → Type 0
-SpellsRepeated bytes text = (byte : ℕ) × (count : ℕ) × (byte < 256) × (count ≤ GIVEN_BYTES_MAX) × (bytes ≡ replicate count byte) × (text ≡ hex_pair byte ++ (codes "*" ++ decimal count))
+SpellsRepeated bytes text = (byte : ℕ) × (count : ℕ) × (byte < 256) × (count ≤ GIVEN_BYTES_MAX) × (bytes ≡ replicate count byte) ×
+    (text ≡ hex_pair byte ++ (codes "*" ++ decimal count))
 
 -- data, in either way
 abbrev pub SpellsData : List ℕ → List ℕ → Type 0

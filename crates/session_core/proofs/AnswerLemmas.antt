@@ -33,16 +33,21 @@ same_seat (Err admission) = refl
 left_comes : (says : Says) (was_shut : IsShut) (base : Option (List ℕ)) (taken : List Request) (o : OutputState) (ring : TakingEnd) (left : LeftSession)
     → HasLeft says was_shut base taken o left → ComesToEnd base taken (answered_of o ring (standing.Over left)) left.end
 left_comes says was_shut base taken o ring left h =
-    subst (λ (s : Option SeatState). ComesBy (AreTaken taken) (EndsAt (AreTaken taken)) base o.sink s (with_last o.answers left.last) left.end) (same_seat left.seat)
+    subst (λ (s : Option SeatState). ComesBy (AreTaken taken) (EndsAt (AreTaken taken)) base o.sink s (with_last o.answers left.last) left.end)
+    (same_seat left.seat)
     (h.left_by.leaves.here base taken (over_here base (AreTaken taken) taken [] h.old h.found (append-nil taken) h.over.is))
 
 -- what was answered of a session that stands there
 pub answers_ring : (says : Says) (was_shut : IsShut) (always : Bool) (base : Option (List ℕ)) (o : OutputState) (ring : TakingEnd) (at : Standing)
-    → Stands says was_shut base (received ring) o at → IsAtRest o at → (always ≡ true → o.sink.log.refusals ≡ 0) → AnswersRing says always base (answered_of o ring at)
-answers_ring says was_shut always base o ring (standing.Ready (stage.Opening admission)) h rest let_through = record { answered = (h.talking, all_written base o h.holds rest); said = h.said; let_through = let_through }
-answers_ring says was_shut always base o ring (standing.Ready (stage.Ready live)) h rest let_through = record { answered = (h.talking, all_written base o h.holds rest); said = h.said; let_through = let_through }
+    → Stands says was_shut base (received ring) o at → IsAtRest o at → (always ≡ true → o.sink.log.refusals ≡ 0) →
+    AnswersRing says always base (answered_of o ring at)
+answers_ring says was_shut always base o ring (standing.Ready (stage.Opening admission)) h rest let_through =
+    record { answered = (h.talking, all_written base o h.holds rest); said = h.said; let_through = let_through }
+answers_ring says was_shut always base o ring (standing.Ready (stage.Ready live)) h rest let_through =
+    record { answered = (h.talking, all_written base o h.holds rest); said = h.said; let_through = let_through }
 answers_ring says was_shut always base o ring (standing.Waits live) h rest let_through = absurd rest
-answers_ring says was_shut always base o ring (standing.Lost spent) h rest let_through = record { answered = ((h.is.exited, h.is.cut, h.end_said), all_written base o h.is.holds h.is.sent); said = h.said; let_through = let_through }
+answers_ring says was_shut always base o ring (standing.Lost spent) h rest let_through =
+    record { answered = ((h.is.exited, h.is.cut, h.end_said), all_written base o h.is.holds h.is.sent); said = h.said; let_through = let_through }
 answers_ring says was_shut always base o ring (standing.Over left) h rest let_through = record {
   answered = (
     left_comes says was_shut base (received ring) o ring left h,
@@ -56,9 +61,17 @@ answers_ring says was_shut always base o ring (standing.Over left) h rest let_th
 
 -- memory ran out before
 pub answers_nothing : (says : Says) (always : Bool) (base : Option (List ℕ)) (ring : TakingEnd) (admission : Unit {0}) (writer : LoggedWriterState)
-    → writer ≡ record { contents = base; log = fresh_log } → AnswersRing says always base (record { seat_is = seat.None admission; answers = []; end_is = Some end.NoMemory; ring = ring; writer = writer })
+    → writer ≡ record { contents = base; log = fresh_log } →
+    AnswersRing says always base (record { seat_is = seat.None admission; answers = []; end_is = Some end.NoMemory; ring = ring; writer = writer })
 answers_nothing says always base ring admission writer e =
-    subst (λ (w : LoggedWriterState). AnswersRing says always base (record { seat_is = seat.None admission; answers = []; end_is = Some end.NoMemory; ring = ring; writer = w })) (sym e) (record {
+    subst (λ (w : LoggedWriterState). AnswersRing says always base (record {
+      seat_is = seat.None admission;
+      answers = [];
+      end_is = Some end.NoMemory;
+      ring =
+          ring;
+      writer = w;
+    })) (sym e) (record {
       answered = (
         record {
           talks = first_none (AreTaken (received ring)) (received ring) [] refl refl;

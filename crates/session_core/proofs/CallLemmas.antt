@@ -26,11 +26,13 @@ use Rattle.session_core.specs.Served.{IsGranted}
 use Rattle.session_core.specs.Proved.Turns.{goes_on, IsTalking, HasReceipts, IsWaitingAt, OverBy, TakesUp}
 use Rattle.session_core.proofs.WaitLemmas.{granted_more, talk_more, receipts_recorded, receipts_refused, cut_now, cut_converses, talked_converses}
 
-pub refused : (seat after : SeatState) (call : Call) (refusal : Refusal) (old new : OutputState) → after ≡ seat → Puts old new (told.Refused refusal) → TakesUp (stage.Ready seat) (request.Call call) old new (standing.Ready (stage.Ready after))
+pub refused : (seat after : SeatState) (call : Call) (refusal : Refusal) (old new : OutputState) → after ≡ seat → Puts old new (told.Refused refusal) →
+    TakesUp (stage.Ready seat) (request.Call call) old new (standing.Ready (stage.Ready after))
 refused seat after call refusal old new same put base handled holds talking = (
   put.holds base holds,
   (
-    talk_more handled old.answers new.answers (record { request_is = request.Call call; told_of = told.Refused refusal ∷ [] }) talking.0 (call, refl, inl (record { refusal = refusal; is = refl })) put.answers,
+    talk_more handled old.answers new.answers (record { request_is = request.Call call; told_of = told.Refused refusal ∷ [] }) talking.0
+        (call, refl, inl (record { refusal = refusal; is = refl })) put.answers,
     ap (λ (s : SeatState). s.receipts) same ∙ talking.1 ∙ sym (receipts_refused old.answers new.answers refusal put.answers),
     subst (λ (s : SeatState). IsGranted s.receipts) (sym same) talking.2,
   ),
@@ -46,20 +48,24 @@ is_reply (outcome.Reply reply) h e = tt
 is_reply (outcome.Parked moved) h e = absurd cc
 is_reply (outcome.Part moved) h e = absurd h
 
-pub replied : (seat after : SeatState) (call : Call) (receipt : Receipted) (old new : OutputState) → Adds seat after (act.Call call) receipt → EndsOrWaits receipt.record_is.outcome → goes_on receipt.record_is.outcome ≡ false
+pub replied : (seat after : SeatState) (call : Call) (receipt : Receipted) (old new : OutputState) → Adds seat after (act.Call call) receipt →
+    EndsOrWaits receipt.record_is.outcome → goes_on receipt.record_is.outcome ≡ false
     → Puts old new (told.Recorded receipt) → TakesUp (stage.Ready seat) (request.Call call) old new (standing.Ready (stage.Ready after))
 replied seat after call receipt old new adds kind ends put base handled holds talking = (
   put.holds base holds,
   (
     talk_more handled old.answers new.answers (record { request_is = request.Call call; told_of = told.Recorded receipt ∷ [] }) talking.0
-        (call, refl, inr (inl (record { receipt = receipt; is = refl; act_is = adds.act_is; ends = is_reply receipt.record_is.outcome kind ends }))) put.answers,
+        (call, refl, inr (inl (record { receipt = receipt; is = refl; act_is = adds.act_is; ends = is_reply receipt.record_is.outcome kind ends })))
+        put.answers,
     receipts_recorded old.answers new.answers receipt seat.receipts after.receipts put.answers talking.1 adds.receives.receipts,
     granted_more seat.receipts after.receipts receipt adds.receives.receipts talking.2,
   ),
 )
 
-pub parked : (base : Option (List ℕ)) (handled : List Request) (seat after : SeatState) (call : Call) (receipt : Receipted) (old new : OutputState) → Adds seat after (act.Call call) receipt → EndsOrWaits receipt.record_is.outcome
-    → goes_on receipt.record_is.outcome ≡ true → Puts old new (told.Recorded receipt) → Holds base old → IsTalking handled old.answers (stage.Ready seat) → IsWaitingAt base handled call after new
+pub parked : (base : Option (List ℕ)) (handled : List Request) (seat after : SeatState) (call : Call) (receipt : Receipted) (old new : OutputState) →
+    Adds seat after (act.Call call) receipt → EndsOrWaits receipt.record_is.outcome
+    → goes_on receipt.record_is.outcome ≡ true → Puts old new (told.Recorded receipt) → Holds base old → IsTalking handled old.answers (stage.Ready seat) →
+    IsWaitingAt base handled call after new
 parked base handled seat after call receipt old new adds kind more put holds talking = record {
   holds = put.holds base holds;
   waits = record {
@@ -86,7 +92,8 @@ pub converses : (requests : List Request) (answers : List Told) (at : Stage) →
 converses requests answers at h = subst (λ (l : List Request). Converses l answers) (append-nil requests) (talk_converses requests [] answers at h)
 
 -- memory ran out for the answer of a call that is recorded
-with_called : (goes : Bool) (handled : List Request) (old : List Told) (call : Call) (receipt : Receipted) → goes_on receipt.record_is.outcome ≡ goes → EndsOrWaits receipt.record_is.outcome → receipt.record_is.act ≡ act.Call call → Talked handled old
+with_called : (goes : Bool) (handled : List Request) (old : List Told) (call : Call) (receipt : Receipted) → goes_on receipt.record_is.outcome ≡ goes →
+    EndsOrWaits receipt.record_is.outcome → receipt.record_is.act ≡ act.Call call → Talked handled old
     → Converses (handled ++ request.Call call ∷ []) (old ++ told.Recorded receipt ∷ [])
 with_called true handled old call receipt e kind act_is h =
     let new = old ++ told.Recorded receipt ∷ [] in
@@ -99,10 +106,12 @@ with_called true handled old call receipt e kind act_is h =
     }))
 with_called false handled old call receipt e kind act_is h =
     let new = old ++ told.Recorded receipt ∷ [] in
-    talked_converses (handled ++ request.Call call ∷ []) new (talk_more handled old new (record { request_is = request.Call call; told_of = told.Recorded receipt ∷ [] }) h
+    talked_converses (handled ++ request.Call call ∷ []) new
+    (talk_more handled old new (record { request_is = request.Call call; told_of = told.Recorded receipt ∷ [] }) h
     (call, refl, inr (inl (record { receipt = receipt; is = refl; act_is = act_is; ends = is_reply receipt.record_is.outcome kind e }))) refl)
 
-pub untold : (seat after : SeatState) (call : Call) (receipt : Receipted) (old new : OutputState) → Adds seat after (act.Call call) receipt → EndsOrWaits receipt.record_is.outcome → new ≡ old
+pub untold : (seat after : SeatState) (call : Call) (receipt : Receipted) (old new : OutputState) → Adds seat after (act.Call call) receipt →
+    EndsOrWaits receipt.record_is.outcome → new ≡ old
     → TakesUp (stage.Ready seat) (request.Call call) old new (standing.Over (over.Untold after receipt))
 untold seat after call receipt old new adds kind e base handled holds talking =
     subst (λ (o : OutputState). OverBy base handled (request.Call call) o (over.Untold after receipt)) (sym e) (record {
@@ -114,7 +123,8 @@ untold seat after call receipt old new adds kind e base handled holds talking =
     })
 
 -- memory ran out for the answer of a call that is refused
-pub refusal_unput : (seat after : SeatState) (call : Call) (old new : OutputState) → after ≡ seat → new ≡ old → TakesUp (stage.Ready seat) (request.Call call) old new (standing.Over (over.Leaves (stage.Ready after) why.NoMemory))
+pub refusal_unput : (seat after : SeatState) (call : Call) (old new : OutputState) → after ≡ seat → new ≡ old →
+    TakesUp (stage.Ready seat) (request.Call call) old new (standing.Over (over.Leaves (stage.Ready after) why.NoMemory))
 refusal_unput seat after call old new same e base handled holds talking =
     subst (λ (o : OutputState). OverBy base handled (request.Call call) o (over.Leaves (stage.Ready after) why.NoMemory)) (sym e) (
       holds,
@@ -131,8 +141,12 @@ unflushed at next old new h base handled holds talking = (
 )
 
 -- the same stage and the same request
-pub same_place : (at other : Stage) (next same : Request) (old new : OutputState) (found : Turn) → at ≡ other → next ≡ same → TakesUp other same old new found → TakesUp at next old new found
-same_place at other next same old new found e k h = subst (λ (s : Stage). TakesUp s next old new found) (sym e) (subst (λ (r : Request). TakesUp other r old new found) (sym k) h)
+pub same_place : (at other : Stage) (next same : Request) (old new : OutputState) (found : Turn) → at ≡ other → next ≡ same → TakesUp other same old new found →
+    TakesUp at next old new found
+same_place at other next same old new found e k h = subst (λ (s : Stage). TakesUp s next old new found) (sym e)
+    (subst (λ (r : Request). TakesUp other r old new found) (sym k) h)
 
-pub after_flush : (at : Stage) (next : Request) (old mid new : OutputState) (found : Turn) → Flushes old mid → TakesUp at next mid new found → TakesUp at next old new found
-after_flush at next old mid new found h k base handled holds talking = k base handled (h.holds base holds) (subst (λ (l : List Told). IsTalking handled l at) (sym h.answers) talking)
+pub after_flush : (at : Stage) (next : Request) (old mid new : OutputState) (found : Turn) → Flushes old mid → TakesUp at next mid new found →
+    TakesUp at next old new found
+after_flush at next old mid new found h k base handled holds talking =
+    k base handled (h.holds base holds) (subst (λ (l : List Told). IsTalking handled l at) (sym h.answers) talking)

@@ -87,7 +87,8 @@ parts_wait before one (told.Refused refusal ∷ more) h are = absurd are.0
 cut_waits : (requests : List Request) (answers : List Told) → IsCut requests answers None → EndsWaiting answers
 cut_waits requests answers cut =
     let w = cut.waits in
-    let first : WaitsOn (told.Recorded w.waits.receipt) = (subst OfCall (sym w.waits.act_is) tt, waits_parked w.waits.receipt.record_is.outcome w.waits.waits) in
+    let first : WaitsOn (told.Recorded w.waits.receipt) =
+    (subst OfCall (sym w.waits.act_is) tt, waits_parked w.waits.receipt.record_is.outcome w.waits.waits) in
     let all : answers ≡ w.told_before ++ told.Recorded w.waits.receipt ∷ w.waits.parts =
     cut.answers_are ∙ append-nil cut.told_so_far ∙ w.answers_are ∙ ap (λ (l : List Told). w.told_before ++ l) w.waits.is in
     subst EndsWaiting (sym all) (parts_wait w.told_before (told.Recorded w.waits.receipt) w.waits.parts first w.waits.go_on)
@@ -108,8 +109,20 @@ record EndsDone (answers : List Told) : Type 0 where
 
 answered_done : (call : Call) (answers : List Told) → AnswersCall call answers → EndsDone answers
 answered_done call answers (inl h) = record { before = []; one = told.Refused h.refusal; is = h.is; done = λ w. w }
-answered_done call answers (inr (inl h)) = record { before = []; one = told.Recorded h.receipt; is = h.is; done = λ w. waits_no_more h.receipt.record_is.outcome h.ends w.1 }
-answered_done call answers (inr (inr h)) = record { before = h.waiting; one = told.Recorded h.receipt; is = h.is; done = λ w. waits_no_more h.receipt.record_is.outcome h.ends w.1 }
+answered_done call answers (inr (inl h)) = record {
+  before = [];
+  one = told.Recorded h.receipt;
+  is = h.is;
+  done =
+      λ w. waits_no_more h.receipt.record_is.outcome h.ends w.1;
+}
+answered_done call answers (inr (inr h)) = record {
+  before = h.waiting;
+  one = told.Recorded h.receipt;
+  is = h.is;
+  done =
+      λ w. waits_no_more h.receipt.record_is.outcome h.ends w.1;
+}
 
 more_done : (answers more : List Told) → EndsDone more → EndsDone (answers ++ more)
 more_done answers more h = record {
@@ -132,7 +145,13 @@ opening_done (request.Call call) receipt h w = h
 
 talked_done : (handled : List Request) (answers : List Told) → Talked handled answers → EndsDone answers
 talked_done handled answers t =
-    let opened : EndsDone t.opened = record { before = []; one = told.Recorded t.opens.receipt; is = t.opens.is; done = opening_done t.opening t.opens.receipt t.opens.record_of } in
+    let opened : EndsDone t.opened = record {
+      before = [];
+      one = told.Recorded t.opens.receipt;
+      is = t.opens.is;
+      done =
+          opening_done t.opening t.opens.receipt t.opens.record_of;
+    } in
     subst EndsDone (sym t.answers_are) (calls_done t.opened t.calls opened t.are_calls)
 
 not_cut : (handled requests : List Request) (answers : List Told) → Talked handled answers → IsCut requests answers None → ⊥
@@ -146,7 +165,8 @@ not_cut_at handled requests answers (stage.Ready seat) t cut = not_cut handled r
 
 -- ---- how a session that is closed was over
 
-cause_closes : (found : Over) (old : OutputState) (answers : List Told) (cause : LeaveCause) → (IsOfReads cause → MayClose found) → answers ≡ old.answers → ClosesAs found old answers (end_of cause)
+cause_closes : (found : Over) (old : OutputState) (answers : List Told) (cause : LeaveCause) → (IsOfReads cause → MayClose found) → answers ≡ old.answers →
+    ClosesAs found old answers (end_of cause)
 cause_closes found old answers why.Closed may same = (may tt, same)
 cause_closes found old answers why.ReadFault may same = (may tt, same)
 cause_closes found old answers why.Malformed may same = (may tt, same)
@@ -154,39 +174,48 @@ cause_closes found old answers why.RunFull may same = tt
 cause_closes found old answers why.NoMemory may same = tt
 cause_closes found old answers why.Ahead may same = (may tt, same)
 
-sent_closes : (found : Over) (old new : OutputState) (cause : LeaveCause) (wanted : End) → (IsOfReads cause → MayClose found) → SendsLast old new cause wanted → ClosesAs found old new.answers wanted
+sent_closes : (found : Over) (old new : OutputState) (cause : LeaveCause) (wanted : End) → (IsOfReads cause → MayClose found) → SendsLast old new cause wanted →
+    ClosesAs found old new.answers wanted
 sent_closes found old new cause wanted may (inl h) = rw h.1 (cause_closes found old new.answers cause may h.0.flushes.answers)
 sent_closes found old new cause wanted may (inr h) = rw h.1 tt
 
-hung_closes : (found : Over) (old : OutputState) (answers : List Told) (wanted given : End) (seat spent : SeatState) → HangsUp seat wanted spent given → ClosesAs found old answers wanted → ClosesAs found old answers given
+hung_closes : (found : Over) (old : OutputState) (answers : List Told) (wanted given : End) (seat spent : SeatState) → HangsUp seat wanted spent given →
+    ClosesAs found old answers wanted → ClosesAs found old answers given
 hung_closes found old answers wanted given seat spent (inl h) closes = rw h.1 closes
 hung_closes found old answers wanted given seat spent (inr h) closes = rw h.1 tt
 
-left_closes : (found : Over) (old : OutputState) (answers : List Told) (wanted given : End) (at : Stage) (seat : Result SeatState (Unit {0})) → LeavesWith at wanted seat given → ClosesAs found old answers wanted → ClosesAs found old answers given
+left_closes : (found : Over) (old : OutputState) (answers : List Told) (wanted given : End) (at : Stage) (seat : Result SeatState (Unit {0})) →
+    LeavesWith at wanted seat given → ClosesAs found old answers wanted → ClosesAs found old answers given
 left_closes found old answers wanted given (stage.Opening admission) seat h closes = rw h.1 closes
 left_closes found old answers wanted given (stage.Ready s) (Err admission) h closes = absurd h
 left_closes found old answers wanted given (stage.Ready s) (Ok spent) h closes = hung_closes found old answers wanted given s spent h closes
 
 -- it is left by its stage
-leave_closes : (found : Over) (old new : OutputState) (at : Stage) (wanted : End) (left : LeftSession) → LeavesWith at wanted left.seat left.end → left.last ≡ None → ClosesAs found old new.answers wanted → ClosesBy found old new left
+leave_closes : (found : Over) (old new : OutputState) (at : Stage) (wanted : End) (left : LeftSession) → LeavesWith at wanted left.seat left.end →
+    left.last ≡ None → ClosesAs found old new.answers wanted → ClosesBy found old new left
 leave_closes found old new at wanted left h none closes =
-    subst (λ (last : Option Receipted). ClosesAs found old (with_last new.answers last) left.end) (sym none) (left_closes found old new.answers wanted left.end at left.seat h closes)
+    subst (λ (last : Option Receipted). ClosesAs found old (with_last new.answers last) left.end) (sym none)
+    (left_closes found old new.answers wanted left.end at left.seat h closes)
 
-pub leaves_closes : (found : Over) (old new : OutputState) (at : Stage) (cause : LeaveCause) (wanted : End) (left : LeftSession) → found ≡ over.Leaves at cause → SendsLast old new cause wanted
+pub leaves_closes : (found : Over) (old new : OutputState) (at : Stage) (cause : LeaveCause) (wanted : End) (left : LeftSession) →
+    found ≡ over.Leaves at cause → SendsLast old new cause wanted
     → LeavesWith at wanted left.seat left.end → left.last ≡ None → ClosesBy found old new left
 leaves_closes found old new at cause wanted left same sends h none =
     leave_closes found old new at wanted left h none (sent_closes found old new cause wanted (λ closed. subst MayClose (sym same) closed) sends)
 
-pub unwritten_closes : (found : Over) (o : OutputState) (at : Stage) (sent : ℕ) (left : LeftSession) → LeavesWith at (end.WriteFault sent) left.seat left.end → left.last ≡ None → ClosesBy found o o left
+pub unwritten_closes : (found : Over) (o : OutputState) (at : Stage) (sent : ℕ) (left : LeftSession) → LeavesWith at (end.WriteFault sent) left.seat left.end →
+    left.last ≡ None → ClosesBy found o o left
 unwritten_closes found o at sent left h none = leave_closes found o o at (end.WriteFault sent) left h none tt
 
 -- it is left with a seat
-pub seat_closes : (found : Over) (old new : OutputState) (cause : LeaveCause) (seat : SeatState) (wanted : End) (left : LeftSession) → (IsOfReads cause → MayClose found) → SendsLast old new cause wanted
+pub seat_closes : (found : Over) (old new : OutputState) (cause : LeaveCause) (seat : SeatState) (wanted : End) (left : LeftSession) →
+    (IsOfReads cause → MayClose found) → SendsLast old new cause wanted
     → left ≡ record { seat = Ok seat; end = wanted; last = None } → ClosesBy found old new left
 seat_closes found old new cause seat wanted left may sends same = subst (ClosesBy found old new) (sym same) (sent_closes found old new cause wanted may sends)
 
 -- it is left by an end that is not that of a session that is closed
-pub hung_up_closes : (found : Over) (old new : OutputState) (seat spent : SeatState) (wanted given : End) (last : Option Receipted) (left : LeftSession) → ((answers : List Told) → ClosesAs found old answers wanted) → HangsUp seat wanted spent given
+pub hung_up_closes : (found : Over) (old new : OutputState) (seat spent : SeatState) (wanted given : End) (last : Option Receipted) (left : LeftSession) →
+    ((answers : List Told) → ClosesAs found old answers wanted) → HangsUp seat wanted spent given
     → left ≡ record { seat = Ok spent; end = given; last = last } → ClosesBy found old new left
 hung_up_closes found old new seat spent wanted given last left none h same =
     subst (ClosesBy found old new) (sym same) (hung_closes found old (with_last new.answers last) wanted given seat spent h (none (with_last new.answers last)))
@@ -194,7 +223,8 @@ hung_up_closes found old new seat spent wanted given last left none h same =
 -- ---- a session that is over
 
 -- a session that leaves off at a request has no call that is cut
-leaves_uncut : (base : Option (List ℕ)) (handled : List Request) (next : Request) (o : OutputState) (at : Stage) (cause : LeaveCause) (requests : List Request) → IsOfReads cause → LeavesBy base handled next o at cause → IsCut requests o.answers None → ⊥
+leaves_uncut : (base : Option (List ℕ)) (handled : List Request) (next : Request) (o : OutputState) (at : Stage) (cause : LeaveCause)
+    (requests : List Request) → IsOfReads cause → LeavesBy base handled next o at cause → IsCut requests o.answers None → ⊥
 leaves_uncut base handled next o at why.Closed requests of h cut = h
 leaves_uncut base handled next o at why.ReadFault requests of h cut = h
 leaves_uncut base handled next o at why.Malformed requests of h cut = not_cut_at handled requests o.answers at h.1 cut
@@ -203,7 +233,8 @@ leaves_uncut base handled next o at why.NoMemory requests of h cut = of
 leaves_uncut base handled next o at why.Ahead requests of h cut = h
 
 -- nor has one that leaves off between two requests
-off_uncut : (base : Option (List ℕ)) (input : List ℕ) (o : OutputState) (at : Stage) (cause : LeaveCause) (requests : List Request) → IsOfReads cause → LeavesOff base input o (over.Leaves at cause) → IsCut requests o.answers None → ⊥
+off_uncut : (base : Option (List ℕ)) (input : List ℕ) (o : OutputState) (at : Stage) (cause : LeaveCause) (requests : List Request) → IsOfReads cause →
+    LeavesOff base input o (over.Leaves at cause) → IsCut requests o.answers None → ⊥
 off_uncut base input o at why.Closed requests of h cut = not_cut_at h.requests requests o.answers at h.talking cut
 off_uncut base input o at why.ReadFault requests of h cut = not_cut_at h.requests requests o.answers at h.talking cut
 off_uncut base input o at why.Malformed requests of h cut = not_cut_at h.requests requests o.answers at h.talking cut
@@ -220,24 +251,30 @@ ended_unread ended seat why.RunFull of said = of
 ended_unread ended seat why.NoMemory of said = of
 ended_unread ended seat why.Ahead of said = said
 
-given_up : (says : Says) (base : Option (List ℕ)) (input : List ℕ) (source : LoggedReaderState) (o : OutputState) (found : Over) (left : LeftSession) (requests : List Request)
-    → MayClose found → IsOver base input source o found → OverSaid says found → KeepsSeat found left → IsCut requests o.answers None → SeatSaid says.ended (result_ok left.seat) ended_why.Lost
-given_up says base input source o (over.Leaves at cause) left requests may (inl (inl h)) said keeps cut = absurd (leaves_uncut base h.handled h.next o at cause requests may h.is cut)
+given_up : (says : Says) (base : Option (List ℕ)) (input : List ℕ) (source : LoggedReaderState) (o : OutputState) (found : Over) (left : LeftSession)
+    (requests : List Request)
+    → MayClose found → IsOver base input source o found → OverSaid says found → KeepsSeat found left → IsCut requests o.answers None →
+    SeatSaid says.ended (result_ok left.seat) ended_why.Lost
+given_up says base input source o (over.Leaves at cause) left requests may (inl (inl h)) said keeps cut =
+    absurd (leaves_uncut base h.handled h.next o at cause requests may h.is cut)
 given_up says base input source o (over.Leaves at cause) left requests may (inl (inr h)) said keeps cut = absurd h
-given_up says base input source o (over.Leaves at cause) left requests may (inr off) said keeps cut = absurd (off_uncut base input o at cause requests may off.0 cut)
+given_up says base input source o (over.Leaves at cause) left requests may (inr off) said keeps cut =
+    absurd (off_uncut base input o at cause requests may off.0 cut)
 given_up says base input source o (over.Unwritten at) left requests may is said keeps cut = absurd may
 given_up says base input source o (over.OpeningUntold seat) left requests may is said keeps cut = absurd may
 given_up says base input source o (over.RefusalUntold seat) left requests may is said keeps cut = absurd may
 given_up says base input source o (over.Untold seat receipt) left requests may is said keeps cut = absurd may
 given_up says base input source o (over.Refused seat) left requests may (inl (inr h)) said keeps cut = absurd h
-given_up says base input source o (over.Refused seat) left requests may (inl (inl h)) said keeps cut = absurd (not_cut (h.handled ++ h.next ∷ []) requests o.answers h.is.2 cut)
+given_up says base input source o (over.Refused seat) left requests may (inl (inl h)) said keeps cut =
+    absurd (not_cut (h.handled ++ h.next ∷ []) requests o.answers h.is.2 cut)
 given_up says base input source o (over.Refused seat) left requests may (inr off) said keeps cut = absurd off.0
 given_up says base input source o (over.Lost seat cause) left requests may is said keeps cut =
     subst (λ (s : Option SeatState). SeatSaid says.ended s ended_why.Lost) (sym (ap result_ok keeps)) said.0
 given_up says base input source o (over.Ended seat cause) left requests may is said keeps cut = absurd (ended_unread says.ended seat cause may said)
 given_up says base input source o (over.Foreign seat) left requests may is said keeps cut = absurd may
 
-closed_at : (found : Over) (o : OutputState) (answers : List Told) (given : End) → IsEndOfReads given → ClosesAs found o answers given → MayClose found × (answers ≡ o.answers)
+closed_at : (found : Over) (o : OutputState) (answers : List Told) (given : End) → IsEndOfReads given → ClosesAs found o answers given →
+    MayClose found × (answers ≡ o.answers)
 closed_at found o answers end.Closed of h = h
 closed_at found o answers end.ReadFault of h = h
 closed_at found o answers (end.WriteFault sent) of h = absurd of
@@ -248,8 +285,10 @@ closed_at found o answers end.NoMemory of h = absurd of
 closed_at found o answers end.Foreign of h = absurd of
 closed_at found o answers end.NoThread of h = absurd of
 
-pub cut_said : (says : Says) (base : Option (List ℕ)) (input : List ℕ) (source : LoggedReaderState) (old new : OutputState) (found : Over) (left : LeftSession) (answers : List Told)
-    → IsOver base input source old found → OverSaid says found → KeepsSeat found left → ClosesBy found old new left → answers ≡ with_last new.answers left.last → CutSaid says.ended (result_ok left.seat) answers left.end
+pub cut_said : (says : Says) (base : Option (List ℕ)) (input : List ℕ) (source : LoggedReaderState) (old new : OutputState) (found : Over) (left : LeftSession)
+    (answers : List Told)
+    → IsOver base input source old found → OverSaid says found → KeepsSeat found left → ClosesBy found old new left →
+    answers ≡ with_last new.answers left.last → CutSaid says.ended (result_ok left.seat) answers left.end
 cut_said says base input source old new found left answers is said keeps closes told of requests cut =
     let at = closed_at found old (with_last new.answers left.last) left.end of closes in
     given_up says base input source old found left requests at.0 is said keeps (subst (λ (l : List Told). IsCut requests l None) (told ∙ at.1) cut)

@@ -102,7 +102,8 @@ not_sent says base taken old new at fails ready = record {
 -- ---- where a session stands
 
 pub has_left : (says : Says) (was_shut : IsShut) (base : Option (List ℕ)) (taken : List Request) (old new : OutputState) (found : Over) (left : LeftSession)
-    → IsOverAfter says base taken old found → (OverSaid says found → LeftBy says old found new left) → was_shut new.sink.contents → HasLeft says was_shut base taken new left
+    → IsOverAfter says base taken old found → (OverSaid says found → LeftBy says old found new left) → was_shut new.sink.contents →
+    HasLeft says was_shut base taken new left
 has_left says was_shut base taken old new found left is leaves shut =
     record { old = old; found = found; over = is; left_by = leaves is.over_said; shut = shut }
 
@@ -145,7 +146,8 @@ reading_said says at why.NoMemory h = tt
 reading_said says at why.Ahead h = tt
 
 -- all are answered
-pub ends_after_all : (says : Says) (base : Option (List ℕ)) (taken rest sent : List Request) (cause : LeaveCause) (at : Stage) (old new : OutputState) (left : LeftSession)
+pub ends_after_all : (says : Says) (base : Option (List ℕ)) (taken rest sent : List Request) (cause : LeaveCause) (at : Stage) (old new : OutputState)
+    (left : LeftSession)
     → taken ++ rest ≡ sent → length rest ≡ 0 → IsReady says base taken old at → IsReadingEnd cause
     → (OverSaid says (over.Leaves at cause) → LeftBy says old (over.Leaves at cause) new left) → IsEnding says base sent cause new left
 ends_after_all says base taken rest sent cause at old new left e none ready reading leaves =
@@ -153,13 +155,20 @@ ends_after_all says base taken rest sent cause at old new left e none ready read
     record {
       old = old;
       found = over.Leaves at cause;
-      ends = inr (inl (record { at = at; is = refl; holds = ready.holds; talking = subst (λ (l : List Request). IsTalking l old.answers at) all ready.talking }));
+      ends = inr (inl (record {
+        at = at;
+        is = refl;
+        holds = ready.holds;
+        talking =
+            subst (λ (l : List Request). IsTalking l old.answers at) all ready.talking;
+      }));
       said = subst (λ (l : List Request). AreSaid (RefusalSaid says l) old.answers) all ready.said;
       left_by = leaves (reading_said says at cause reading);
     }
 
 -- the last that was taken is given up
-pub ends_given_up : (says : Says) (base : Option (List ℕ)) (taken rest sent : List Request) (cause : LeaveCause) (seat : SeatState) (old new : OutputState) (left : LeftSession)
+pub ends_given_up : (says : Says) (base : Option (List ℕ)) (taken rest sent : List Request) (cause : LeaveCause) (seat : SeatState) (old new : OutputState)
+    (left : LeftSession)
     → taken ++ rest ≡ sent → IsLostIn says base taken old seat → IsReadingEnd cause
     → (OverSaid says (over.Lost seat cause) → LeftBy says old (over.Lost seat cause) new left) → IsEnding says base sent cause new left
 ends_given_up says base taken rest sent cause seat old new left e lost reading leaves = record {
@@ -171,7 +180,8 @@ ends_given_up says base taken rest sent cause seat old new left e lost reading l
 }
 
 -- it was left before
-pub ends_early : (says : Says) (was_shut : IsShut) (base : Option (List ℕ)) (taken rest sent : List Request) (cause : LeaveCause) (o : OutputState) (left : LeftSession)
+pub ends_early : (says : Says) (was_shut : IsShut) (base : Option (List ℕ)) (taken rest sent : List Request) (cause : LeaveCause) (o : OutputState)
+    (left : LeftSession)
     → taken ++ rest ≡ sent → HasLeft says was_shut base taken o left → IsEnding says base sent cause o left
 ends_early says was_shut base taken rest sent cause o left e h = record {
   old = h.old;
@@ -182,7 +192,8 @@ ends_early says was_shut base taken rest sent cause o left e h = record {
 }
 
 -- a desk has where its session stands
-pub there : (front : List Record) (says : List Record → Says) (was_shut : IsShut) (base : Option (List ℕ)) (taken : List Request) (o : OutputState) (place : Option Standing)
+pub there : (front : List Record) (says : List Record → Says) (was_shut : IsShut) (base : Option (List ℕ)) (taken : List Request) (o : OutputState)
+    (place : Option Standing)
     → StandsThere front says was_shut base taken o place → place ≡ None → ⊥
 there front says was_shut base taken o None stands is = stands
 there front says was_shut base taken o (Some standing) stands is = absurd cc

@@ -84,7 +84,8 @@ answers_fit : (call : Call) (told_of : List Told) → RequestFits (request.Call 
 answers_fit call told_of fits (inl h) = subst AllToldFit (sym h.is) (tt, tt)
 answers_fit call told_of fits (inr (inl h)) = subst AllToldFit (sym h.is) (call_act_fits call h.receipt.record_is.act h.act_is fits, tt)
 answers_fit call told_of fits (inr (inr h)) =
-    subst AllToldFit (sym h.is) (all_joined ToldFits h.waiting (told.Recorded h.receipt ∷ []) (waiting_fits call h.waiting fits h.waits) (resume_fits h.receipt.record_is.act h.act_is, tt))
+    subst AllToldFit (sym h.is) (all_joined ToldFits h.waiting (told.Recorded h.receipt ∷ []) (waiting_fits call h.waiting fits h.waits)
+    (resume_fits h.receipt.record_is.act h.act_is, tt))
 
 group_fits : (g : Group) → RequestFits g.request_is → IsCallGroup g → AllToldFit g.told_of
 group_fits g fits h = answers_fit h.0 g.told_of (subst RequestFits h.1 fits) h.2
@@ -106,22 +107,27 @@ opened_fits opening told_of h = subst AllToldFit (sym h.is) (opening_fits openin
 talked_fits : (handled : List Request) (answers : List Told) → RequestsFit handled → Talked handled answers → AllToldFit answers
 talked_fits handled answers fits h =
     let requests : RequestsFit (h.opening ∷ requests_of h.calls) = subst RequestsFit h.requests_are fits in
-    subst AllToldFit (sym h.answers_are) (all_joined ToldFits h.opened (told_of_all h.calls) (opened_fits h.opening h.opened h.opens) (groups_fit h.calls requests.1 h.are_calls))
+    subst AllToldFit (sym h.answers_are) (all_joined ToldFits h.opened (told_of_all h.calls) (opened_fits h.opening h.opened h.opens)
+    (groups_fit h.calls requests.1 h.are_calls))
 
-waits_fits : (handled : List Request) (answers : List Told) (call : Call) → RequestsFit handled → RequestFits (request.Call call) → Waits handled answers call → AllToldFit answers
+waits_fits : (handled : List Request) (answers : List Told) (call : Call) → RequestsFit handled → RequestFits (request.Call call) → Waits handled answers call →
+    AllToldFit answers
 waits_fits handled answers call fits fits_call h =
-    subst AllToldFit (sym h.answers_are) (all_joined ToldFits h.told_before h.told_of (talked_fits handled h.told_before fits h.talked) (waiting_fits call h.told_of fits_call h.waits))
+    subst AllToldFit (sym h.answers_are) (all_joined ToldFits h.told_before h.told_of (talked_fits handled h.told_before fits h.talked)
+    (waiting_fits call h.told_of fits_call h.waits))
 
 last_fits : (given_up : Option Refusal) → AllToldFit (told_last given_up)
 last_fits None = tt
 last_fits (Some refusal) = (tt, tt)
 
-cut_fits : (handled : List Request) (answers : List Told) (given_up : Option Refusal) → RequestsFit handled → IsCut handled answers given_up → AllToldFit answers
+cut_fits : (handled : List Request) (answers : List Told) (given_up : Option Refusal) → RequestsFit handled → IsCut handled answers given_up →
+    AllToldFit answers
 cut_fits handled answers given_up fits h =
     let requests : RequestsFit (h.before ++ request.Call h.call ∷ []) = subst RequestsFit h.requests_are fits in
     let before = all_first RequestFits h.before (request.Call h.call ∷ []) requests in
     let call = all_last RequestFits h.before (request.Call h.call ∷ []) requests in
-    subst AllToldFit (sym h.answers_are) (all_joined ToldFits h.told_so_far (told_last given_up) (waits_fits h.before h.told_so_far h.call before call.0 h.waits) (last_fits given_up))
+    subst AllToldFit (sym h.answers_are) (all_joined ToldFits h.told_so_far (told_last given_up)
+    (waits_fits h.before h.told_so_far h.call before call.0 h.waits) (last_fits given_up))
 
 conversation_fits : (handled : List Request) (answers : List Told) → RequestsFit handled → IsConversation handled answers → AllToldFit answers
 conversation_fits handled answers fits (inl (inl h)) = subst AllToldFit (sym h.1) tt
@@ -141,21 +147,26 @@ abbrev ReceiptFits : Receipted → Type 0
 ReceiptFits receipt = ActFits receipt.record_is.act
 
 exited_fits : (seat : SeatState) (answers : List Told) → ActsFit (receipts_of answers) → HasExited seat answers → ActsFit seat.receipts
-exited_fits seat answers fits h = subst ActsFit (sym h.receipts) (all_joined ReceiptFits (receipts_of answers) (h.exit ∷ []) fits (exit_fits h.exit.record_is.act h.act_is, tt))
+exited_fits seat answers fits h = subst ActsFit (sym h.receipts) (all_joined ReceiptFits (receipts_of answers) (h.exit ∷ []) fits
+    (exit_fits h.exit.record_is.act h.act_is, tt))
 
-untold_fits : (input : List ℕ) (receipts : List Receipted) (answers : List Told) → ActsFit (receipts_of answers) → HasUntold (Begins input) receipts answers → ActsFit receipts
+untold_fits : (input : List ℕ) (receipts : List Receipted) (answers : List Told) → ActsFit (receipts_of answers) → HasUntold (Begins input) receipts answers →
+    ActsFit receipts
 untold_fits input receipts answers fits h =
     let untold = all_last ToldFits answers (told.Recorded h.untold ∷ []) (first_fit input (answers ++ told.Recorded h.untold ∷ []) h.talks) in
     subst ActsFit (sym h.receipts_are) (all_joined ReceiptFits (receipts_of answers) (h.untold ∷ []) fits (untold.0, tt))
 
-exited_untold_fits : (input : List ℕ) (seat : SeatState) (answers : List Told) → ActsFit (receipts_of answers) → HasExitedUntold (Begins input) seat answers → ActsFit seat.receipts
+exited_untold_fits : (input : List ℕ) (seat : SeatState) (answers : List Told) → ActsFit (receipts_of answers) → HasExitedUntold (Begins input) seat answers →
+    ActsFit seat.receipts
 exited_untold_fits input seat answers fits h =
-    subst ActsFit (sym h.receipts) (all_joined ReceiptFits h.before (h.exit ∷ []) (untold_fits input h.before answers fits h.has_untold) (exit_fits h.exit.record_is.act h.act_is, tt))
+    subst ActsFit (sym h.receipts) (all_joined ReceiptFits h.before (h.exit ∷ []) (untold_fits input h.before answers fits h.has_untold)
+    (exit_fits h.exit.record_is.act h.act_is, tt))
 
 refused_fits : (seat : SeatState) (answers : List Told) → ActsFit (receipts_of answers) → IsRefusedOpening seat answers → ActsFit seat.receipts
 refused_fits seat answers fits h = subst ActsFit (ap receipts_of h.answers_are ∙ sym h.receipts) fits
 
-seat_fits : (input : List ℕ) (seat : SeatState) (answers : List Told) (found : End) → ActsFit (receipts_of answers) → IsSeatOf (Begins input) seat answers found → ActsFit seat.receipts
+seat_fits : (input : List ℕ) (seat : SeatState) (answers : List Told) (found : End) → ActsFit (receipts_of answers) →
+    IsSeatOf (Begins input) seat answers found → ActsFit seat.receipts
 seat_fits input seat answers end.Closed fits (inl h) = exited_fits seat answers fits h
 seat_fits input seat answers end.Closed fits (inr h) = refused_fits seat answers fits h
 seat_fits input seat answers end.ReadFault fits h = exited_fits seat answers fits h
@@ -171,7 +182,8 @@ seat_fits input seat answers end.Foreign fits (granted, inl h) = subst ActsFit (
 seat_fits input seat answers end.Foreign fits (granted, inr h) = untold_fits input seat.receipts answers fits h
 seat_fits input seat answers end.NoThread fits h = absurd h
 
-seated_fits : (input : List ℕ) (seat : Option SeatState) (answers : List Told) (found : End) → ActsFit (receipts_of answers) → IsSeated (Begins input) seat answers found → SeatFits seat
+seated_fits : (input : List ℕ) (seat : Option SeatState) (answers : List Told) (found : End) → ActsFit (receipts_of answers) →
+    IsSeated (Begins input) seat answers found → SeatFits seat
 seated_fits input None answers found fits h = tt
 seated_fits input (Some seat) answers found fits h = seat_fits input seat answers found fits h
 

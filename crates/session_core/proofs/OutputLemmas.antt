@@ -19,20 +19,24 @@ given_err (Ok x) f p = tt
 given_err (Err e) f p = f p
 
 -- so many bytes of what was not written were
-front_written : (base : Option (List ℕ)) (o new : OutputState) (n : ℕ) → WritesFront o.sink.contents new.sink.contents o.unsent n → new.sent ≡ told_place (o.sent + n) → new.answers ≡ o.answers → Holds base o
+front_written : (base : Option (List ℕ)) (o new : OutputState) (n : ℕ) → WritesFront o.sink.contents new.sink.contents o.unsent n →
+    new.sent ≡ told_place (o.sent + n) → new.answers ≡ o.answers → Holds base o
     → IsFrontWritten base new.sink.contents new.answers new.sent
 front_written base o new n front sent answers h = record {
   text = h.text ++ take n o.unsent;
   rest = drop n o.unsent;
   appends = Appends-trans base o.sink.contents new.sink.contents h.text (take n o.unsent) h.appends front.appends;
-  is = append_assoc h.text (take n o.unsent) (drop n o.unsent) ∙ ap (λ (l : List ℕ). h.text ++ l) (take-append-drop n o.unsent) ∙ h.is ∙ ap answers_text (sym answers);
+  is = append_assoc h.text (take n o.unsent) (drop n o.unsent) ∙ ap (λ (l : List ℕ). h.text ++ l) (take-append-drop n o.unsent) ∙ h.is ∙
+      ap answers_text (sym answers);
   sent_is =
-      let long : length (h.text ++ take n o.unsent) ≡ length h.text + n = length-append h.text (take n o.unsent) ∙ ap (λ (m : ℕ). length h.text + m) (length-take-le n o.unsent front.within) in
+      let long : length (h.text ++ take n o.unsent) ≡ length h.text + n = length-append h.text (take n o.unsent) ∙
+      ap (λ (m : ℕ). length h.text + m) (length-take-le n o.unsent front.within) in
       let was = h.sent_is in
       omega (arith, sent, was, long);
 }
 
-pub fails_to_send : {T E : Type 0} (r : Result T E) (o new : OutputState) (n : ℕ) (bytes : List ℕ) → bytes ≡ o.unsent → WritesFront o.sink.contents new.sink.contents bytes n → new.sent ≡ told_place (o.sent + n) → new.answers ≡ o.answers
+pub fails_to_send : {T E : Type 0} (r : Result T E) (o new : OutputState) (n : ℕ) (bytes : List ℕ) → bytes ≡ o.unsent →
+    WritesFront o.sink.contents new.sink.contents bytes n → new.sent ≡ told_place (o.sent + n) → new.answers ≡ o.answers
     → OnErr r (IsBroken new.sink.log) → OnErr r (FailsToSend o new)
 fails_to_send r o new n bytes e front sent answers broken =
     given_err r (λ (b : IsBroken new.sink.log). record {
@@ -43,7 +47,8 @@ fails_to_send r o new n bytes e front sent answers broken =
       };
     }) broken
 
-held_still : (base : Option (List ℕ)) (o new : OutputState) (n : ℕ) → WritesFront o.sink.contents new.sink.contents o.unsent n → new.sent ≡ told_place (o.sent + n) → new.answers ≡ o.answers → new.unsent ≡ [] → n ≡ length o.unsent → Holds base o
+held_still : (base : Option (List ℕ)) (o new : OutputState) (n : ℕ) → WritesFront o.sink.contents new.sink.contents o.unsent n →
+    new.sent ≡ told_place (o.sent + n) → new.answers ≡ o.answers → new.unsent ≡ [] → n ≡ length o.unsent → Holds base o
     → Holds base new
 unfolding front_written
 held_still base o new n front sent answers none all h =
@@ -56,14 +61,16 @@ held_still base o new n front sent answers none all h =
       sent_is = b.sent_is;
     }
 
-pub sends_all : {T E : Type 0} (r : Result T E) (o new : OutputState) (n : ℕ) (bytes : List ℕ) → bytes ≡ o.unsent → WritesFront o.sink.contents new.sink.contents bytes n → new.sent ≡ told_place (o.sent + n) → new.answers ≡ o.answers
+pub sends_all : {T E : Type 0} (r : Result T E) (o new : OutputState) (n : ℕ) (bytes : List ℕ) → bytes ≡ o.unsent →
+    WritesFront o.sink.contents new.sink.contents bytes n → new.sent ≡ told_place (o.sent + n) → new.answers ≡ o.answers
     → new.unsent ≡ [] → OnOk r (n ≡ length bytes) → OnOk r (SendsAll o new)
 sends_all r o new n bytes same front sent answers none all =
     given_ok r (λ (e : n ≡ length bytes). record {
       flushes = record {
         answers = answers;
         holds = λ (base : Option (List ℕ)) (h : Holds base o).
-            held_still base o new n (subst (λ (l : List ℕ). WritesFront o.sink.contents new.sink.contents l n) same front) sent answers none (e ∙ ap length same) h;
+            held_still base o new n (subst (λ (l : List ℕ). WritesFront o.sink.contents new.sink.contents l n) same front) sent answers none
+            (e ∙ ap length same) h;
       };
       all = none;
     }) all

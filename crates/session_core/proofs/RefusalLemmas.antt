@@ -40,18 +40,21 @@ cut_at [] (b ∷ []) later last one e = absurd cc
 cut_at [] (b ∷ (c ∷ before)) later last one e = absurd cc
 cut_at (x ∷ xs) [] later last one e = inr (xs, cc)
 cut_at (x ∷ xs) (b ∷ before) later last one e =
-    cut_more x b xs before last one (same_head x b (xs ++ last ∷ []) (before ++ one ∷ later) e) (cut_at xs before later last one (same_tail x b (xs ++ last ∷ []) (before ++ one ∷ later) e))
+    cut_more x b xs before last one (same_head x b (xs ++ last ∷ []) (before ++ one ∷ later) e)
+    (cut_at xs before later last one (same_tail x b (xs ++ last ∷ []) (before ++ one ∷ later) e))
 
 -- if it is a refusal, it was said
 abbrev pub OneSaid : (List Told → Refusal → Type 0) → List Told → Told → Type 0
 OneSaid Said before (told.Recorded receipt) = Unit {0}
 OneSaid Said before (told.Refused so) = Said before so
 
-of_cut : (Said : List Told → Refusal → Type 0) (answers before : List Told) (one : Told) (so : Refusal) → AreSaid Said answers → OneSaid Said answers one → Cut answers one before (told.Refused so) → Said before so
+of_cut : (Said : List Told → Refusal → Type 0) (answers before : List Told) (one : Told) (so : Refusal) → AreSaid Said answers → OneSaid Said answers one →
+    Cut answers one before (told.Refused so) → Said before so
 of_cut Said answers before one so are said (inl h) = subst (OneSaid Said before) h.1 (subst (λ (l : List Told). OneSaid Said l one) h.0 said)
 of_cut Said answers before one so are said (inr h) = are before so h.0 h.1
 
-one_more : (Said : List Told → Refusal → Type 0) (answers : List Told) (one : Told) → AreSaid Said answers → OneSaid Said answers one → AreSaid Said (answers ++ one ∷ [])
+one_more : (Said : List Told → Refusal → Type 0) (answers : List Told) (one : Told) → AreSaid Said answers → OneSaid Said answers one →
+    AreSaid Said (answers ++ one ∷ [])
 one_more Said answers one are said before so later e = of_cut Said answers before one so are said (cut_at answers before later one (told.Refused so) e)
 
 none_said : (Said : List Told → Refusal → Type 0) → AreSaid Said []
@@ -70,7 +73,8 @@ same_said Said old new same are = subst (λ (o : OutputState). AreSaid Said o.an
 pub unput_said : (Said : List Told → Refusal → Type 0) (old new : OutputState) → new ≡ old → old.answers ≡ [] → AreSaid Said new.answers
 unput_said Said old new same empty = same_said Said old new same (empty_said Said old.answers empty)
 
-pub put_said : (Said : List Told → Refusal → Type 0) (old new : OutputState) (one : Told) → Puts old new one → AreSaid Said old.answers → OneSaid Said old.answers one → AreSaid Said new.answers
+pub put_said : (Said : List Told → Refusal → Type 0) (old new : OutputState) (one : Told) → Puts old new one → AreSaid Said old.answers →
+    OneSaid Said old.answers one → AreSaid Said new.answers
 put_said Said old new one put are said = kept_said Said (old.answers ++ one ∷ []) new.answers put.answers (one_more Said old.answers one are said)
 
 -- ---- more requests
@@ -94,11 +98,13 @@ last_said says earlier next before so is = record { earlier = earlier; next = ne
 
 -- ---- openings
 
-pub first_said : (Said : List Told → Refusal → Type 0) (receipts : List Receipted) (old new : OutputState) → PutsFirst receipts old new → old.answers ≡ [] → AreSaid Said new.answers
+pub first_said : (Said : List Told → Refusal → Type 0) (receipts : List Receipted) (old new : OutputState) → PutsFirst receipts old new → old.answers ≡ [] →
+    AreSaid Said new.answers
 first_said Said receipts old new put empty = put_said Said old new (told.Recorded put.receipt) put.puts (empty_said Said old.answers empty) tt
 
 -- an answer that memory ran out for, or that a kernel gave
-given_up_put : (Said : List Told → Refusal → Type 0) (old new : OutputState) (so : Refusal) (found : LeaveCause) → PutsGivenUp old new so found → AreSaid Said old.answers → Said old.answers so → AreSaid Said new.answers
+given_up_put : (Said : List Told → Refusal → Type 0) (old new : OutputState) (so : Refusal) (found : LeaveCause) → PutsGivenUp old new so found →
+    AreSaid Said old.answers → Said old.answers so → AreSaid Said new.answers
 given_up_put Said old new so found (inl put) are said = put_said Said old new (told.Refused so) put.1 are said
 given_up_put Said old new so found (inr none) are said = same_said Said old new none.1 are
 
@@ -109,7 +115,8 @@ is_refused says earlier before (request.Attach process) so opens h = h
 is_refused says earlier before (request.Call call) so opens h = absurd opens
 
 pub opening_refused : (says : Says) (handled : List Request) (next : Request)
-    (so : Refusal) (old new : OutputState) (found : LeaveCause) → AsksForASeat next → says.not_opened next so → PutsGivenUp old new so found → handled ≡ [] → old.answers ≡ []
+    (so : Refusal) (old new : OutputState) (found : LeaveCause) → AsksForASeat next → says.not_opened next so → PutsGivenUp old new so found → handled ≡ [] →
+    old.answers ≡ []
     → AreSaid (RefusalSaid says (handled ++ next ∷ [])) new.answers
 opening_refused says handled next so old new found opens said put none empty =
     given_up_put (RefusalSaid says (handled ++ next ∷ [])) old new so found put (empty_said (RefusalSaid says (handled ++ next ∷ [])) old.answers empty)
@@ -125,20 +132,29 @@ call_refused says handled seat call so old new talking said put are =
     (last_said says handled (request.Call call) old.answers so (inl (record { seat = seat; talked = talking.0; receipts = talking.1; said = said })))
 
 end_put : (says : Says) (base : Option (List ℕ)) (handled : List Request) (call : Call)
-    (seat spent : SeatState) (old new : OutputState) (so : Refusal) (found : LeaveCause) → PutsGivenUp old new so found → EndTold (λ (reason : Why). EndsBy seat spent reason × says.ended seat spent reason) so
-    → IsWaitingAt base handled call seat old → AreSaid (RefusalSaid says (handled ++ request.Call call ∷ [])) old.answers → AreSaid (RefusalSaid says (handled ++ request.Call call ∷ [])) new.answers
+    (seat spent : SeatState) (old new : OutputState) (so : Refusal) (found : LeaveCause) → PutsGivenUp old new so found →
+    EndTold (λ (reason : Why). EndsBy seat spent reason × says.ended seat spent reason) so
+    → IsWaitingAt base handled call seat old → AreSaid (RefusalSaid says (handled ++ request.Call call ∷ [])) old.answers →
+    AreSaid (RefusalSaid says (handled ++ request.Call call ∷ [])) new.answers
 end_put says base handled call seat spent old new so found put said w are =
     given_up_put (RefusalSaid says (handled ++ request.Call call ∷ [])) old new so found put are
-    (last_said says handled (request.Call call) old.answers so (inr (record { seat = seat; spent = spent; waits = w.waits; receipts = w.receipts; said = said })))
+    (last_said says handled (request.Call call) old.answers so
+    (inr (record { seat = seat; spent = spent; waits = w.waits; receipts = w.receipts; said = said })))
 
 -- the process of the seat ended in the call that it waited in
 pub ended_refused : (says : Says) (base : Option (List ℕ)) (handled : List Request)
-    (call : Call) (seat spent : SeatState) (reason : Why) (old new : OutputState) (found : Turn) → TellsWhy spent reason old new found → EndsBy seat spent reason → says.ended seat spent reason
-    → IsWaitingAt base handled call seat old → AreSaid (RefusalSaid says (handled ++ request.Call call ∷ [])) old.answers → AreSaid (RefusalSaid says (handled ++ request.Call call ∷ [])) new.answers
-ended_refused says base handled call seat spent ended_why.NoMemory old new (standing.Over (over.Ended held why)) tells ends said w are = end_put says base handled call seat spent old new refusal.NoMemory why tells.0 (ends, said) w are
-ended_refused says base handled call seat spent ended_why.RunFull old new (standing.Over (over.Ended held why)) tells ends said w are = end_put says base handled call seat spent old new refusal.RunFull why tells.0 (ends, said) w are
-ended_refused says base handled call seat spent ended_why.Lost old new (standing.Lost held) tells ends said w are = same_said (RefusalSaid says (handled ++ request.Call call ∷ [])) old new tells.0 are
-ended_refused says base handled call seat spent ended_why.Foreign old new (standing.Over (over.Foreign held)) tells ends said w are = same_said (RefusalSaid says (handled ++ request.Call call ∷ [])) old new tells.0 are
+    (call : Call) (seat spent : SeatState) (reason : Why) (old new : OutputState) (found : Turn) → TellsWhy spent reason old new found →
+    EndsBy seat spent reason → says.ended seat spent reason
+    → IsWaitingAt base handled call seat old → AreSaid (RefusalSaid says (handled ++ request.Call call ∷ [])) old.answers →
+    AreSaid (RefusalSaid says (handled ++ request.Call call ∷ [])) new.answers
+ended_refused says base handled call seat spent ended_why.NoMemory old new (standing.Over (over.Ended held why)) tells ends said w are =
+    end_put says base handled call seat spent old new refusal.NoMemory why tells.0 (ends, said) w are
+ended_refused says base handled call seat spent ended_why.RunFull old new (standing.Over (over.Ended held why)) tells ends said w are =
+    end_put says base handled call seat spent old new refusal.RunFull why tells.0 (ends, said) w are
+ended_refused says base handled call seat spent ended_why.Lost old new (standing.Lost held) tells ends said w are =
+    same_said (RefusalSaid says (handled ++ request.Call call ∷ [])) old new tells.0 are
+ended_refused says base handled call seat spent ended_why.Foreign old new (standing.Over (over.Foreign held)) tells ends said w are =
+    same_said (RefusalSaid says (handled ++ request.Call call ∷ [])) old new tells.0 are
 ended_refused says base handled call seat spent reason old new found tells ends said w are = absurd tells
 
 -- ---- requests
@@ -151,6 +167,7 @@ same_turn Said at other next same old new e k says =
 
 -- ---- the session is left
 
-pub with_last_said : (Said : List Told → Refusal → Type 0) (answers : List Told) (last : Option Receipted) → AreSaid Said answers → AreSaid Said (with_last answers last)
+pub with_last_said : (Said : List Told → Refusal → Type 0) (answers : List Told) (last : Option Receipted) → AreSaid Said answers →
+    AreSaid Said (with_last answers last)
 with_last_said Said answers None are = are
 with_last_said Said answers (Some receipt) are = one_more Said answers (told.Recorded receipt) are tt

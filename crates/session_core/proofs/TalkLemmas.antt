@@ -32,7 +32,8 @@ first_of (request.Attach process) seat receipt h = (ap (λ (s : SeatState). s.re
 first_of (request.Call call) seat receipt h = absurd h
 
 -- an opening and its receipt are a conversation
-first_talk : (next : Request) (handled : List Request) (old new : OutputState) (receipt : Receipted) → IsRecordOf next receipt → handled ≡ [] → old.answers ≡ [] → Puts old new (told.Recorded receipt)
+first_talk : (next : Request) (handled : List Request) (old new : OutputState) (receipt : Receipted) → IsRecordOf next receipt → handled ≡ [] →
+    old.answers ≡ [] → Puts old new (told.Recorded receipt)
     → Talked (handled ++ next ∷ []) new.answers
 first_talk next handled old new receipt record_of none empty put = record {
   opening = next;
@@ -44,13 +45,15 @@ first_talk next handled old new receipt record_of none empty put = record {
   are_calls = tt;
 }
 
-first_receipts : (old new : OutputState) (receipt : Receipted) → old.answers ≡ [] → Puts old new (told.Recorded receipt) → receipts_of new.answers ≡ receipt ∷ []
+first_receipts : (old new : OutputState) (receipt : Receipted) → old.answers ≡ [] → Puts old new (told.Recorded receipt) →
+    receipts_of new.answers ≡ receipt ∷ []
 first_receipts old new receipt empty put = ap receipts_of (put.answers ∙ ap (λ (l : List Told). l ++ told.Recorded receipt ∷ []) empty)
 
 same_first : (a b : Receipted) (receipts : List Receipted) → receipts ≡ a ∷ [] → receipts ≡ b ∷ [] → a ≡ b
 same_first a b receipts h k = cc
 
-pub seated : (admission : Unit {0}) (next : Request) (seat : SeatState) (receipts : List Receipted) (old new : OutputState) → receipts ≡ seat.receipts → OpensBy next (Ok (opened.Seated seat)) → PutsFirst receipts old new
+pub seated : (admission : Unit {0}) (next : Request) (seat : SeatState) (receipts : List Receipted) (old new : OutputState) → receipts ≡ seat.receipts →
+    OpensBy next (Ok (opened.Seated seat)) → PutsFirst receipts old new
     → TakesUp (stage.Opening admission) next old new (standing.Ready (stage.Ready seat))
 seated admission next seat receipts old new same_list h put_list base handled holds talking =
     let put = subst (λ (l : List Receipted). PutsFirst l old new) same_list put_list in
@@ -65,7 +68,8 @@ seated admission next seat receipts old new same_list h put_list base handled ho
       ),
     )
 
-pub unseated : (admission : Unit {0}) (next : Request) (seat : SeatState) (receipts : List Receipted) (old new : OutputState) → receipts ≡ seat.receipts → OpensBy next (Ok (opened.Refused seat)) → PutsFirst receipts old new
+pub unseated : (admission : Unit {0}) (next : Request) (seat : SeatState) (receipts : List Receipted) (old new : OutputState) → receipts ≡ seat.receipts →
+    OpensBy next (Ok (opened.Refused seat)) → PutsFirst receipts old new
     → TakesUp (stage.Opening admission) next old new (standing.Over (over.Refused seat))
 unseated admission next seat receipts old new same_list h put_list base handled holds talking =
     let put = subst (λ (l : List Receipted). PutsFirst l old new) same_list put_list in
@@ -100,7 +104,8 @@ still_fresh base old new e holds empty = subst (IsFresh base) (sym e) (record {
 })
 
 -- what would have been answered
-untold_talk : (next : Request) (handled : List Request) (receipt : Receipted) → IsRecordOf next receipt → handled ≡ [] → Converses (handled ++ next ∷ []) (told.Recorded receipt ∷ [])
+untold_talk : (next : Request) (handled : List Request) (receipt : Receipted) → IsRecordOf next receipt → handled ≡ [] →
+    Converses (handled ++ next ∷ []) (told.Recorded receipt ∷ [])
 untold_talk next handled receipt record_of none = talked_converses (handled ++ next ∷ []) (told.Recorded receipt ∷ []) (record {
   opening = next;
   opened = told.Recorded receipt ∷ [];
@@ -111,22 +116,28 @@ untold_talk next handled receipt record_of none = talked_converses (handled ++ n
   are_calls = tt;
 })
 
-untold_opening : (base : Option (List ℕ)) (next : Request) (handled : List Request) (old new : OutputState) (seat : SeatState) (receipt : Receipted) → OpensFor next seat receipt → new ≡ old → Holds base old → handled ≡ [] → old.answers ≡ []
+untold_opening : (base : Option (List ℕ)) (next : Request) (handled : List Request) (old new : OutputState) (seat : SeatState) (receipt : Receipted) →
+    OpensFor next seat receipt → new ≡ old → Holds base old → handled ≡ [] → old.answers ≡ []
     → IsUntoldOpening base (handled ++ next ∷ []) new seat.receipts receipt
 untold_opening base next handled old new seat receipt h e holds none empty =
     let fresh = still_fresh base old new e holds empty in
     let first = first_of next seat receipt h in
     record { holds = fresh.holds; answers = fresh.answers; unsent = fresh.unsent; one = first.0; with_it = untold_talk next handled receipt first.1 none }
 
-pub opening_untold : (admission : Unit {0}) (next : Request) (seat : SeatState) (old new : OutputState) → OpensBy next (Ok (opened.Seated seat)) → new ≡ old → TakesUp (stage.Opening admission) next old new (standing.Over (over.OpeningUntold seat))
-opening_untold admission next seat old new h e base handled holds talking = (h.0, untold_opening base next handled old new seat h.0 h.1 e holds talking.0 talking.1, h.2)
+pub opening_untold : (admission : Unit {0}) (next : Request) (seat : SeatState) (old new : OutputState) → OpensBy next (Ok (opened.Seated seat)) → new ≡ old →
+    TakesUp (stage.Opening admission) next old new (standing.Over (over.OpeningUntold seat))
+opening_untold admission next seat old new h e base handled holds talking =
+    (h.0, untold_opening base next handled old new seat h.0 h.1 e holds talking.0 talking.1, h.2)
 
-pub refusal_untold : (admission : Unit {0}) (next : Request) (seat : SeatState) (old new : OutputState) → OpensBy next (Ok (opened.Refused seat)) → new ≡ old → TakesUp (stage.Opening admission) next old new (standing.Over (over.RefusalUntold seat))
-refusal_untold admission next seat old new h e base handled holds talking = (h.0, untold_opening base next handled old new seat h.0 h.1 e holds talking.0 talking.1, h.2)
+pub refusal_untold : (admission : Unit {0}) (next : Request) (seat : SeatState) (old new : OutputState) → OpensBy next (Ok (opened.Refused seat)) → new ≡ old →
+    TakesUp (stage.Opening admission) next old new (standing.Over (over.RefusalUntold seat))
+refusal_untold admission next seat old new h e base handled holds talking =
+    (h.0, untold_opening base next handled old new seat h.0 h.1 e holds talking.0 talking.1, h.2)
 
 -- ---- openings that are not recorded
 
-is_unopened : (next : Request) (handled : List Request) (old new : OutputState) (refusal : Refusal) → AsksForASeat next → IsWanting refusal → handled ≡ [] → old.answers ≡ [] → Puts old new (told.Refused refusal) → IsUnopened (handled ++ next ∷ []) new.answers refusal
+is_unopened : (next : Request) (handled : List Request) (old new : OutputState) (refusal : Refusal) → AsksForASeat next → IsWanting refusal → handled ≡ [] →
+    old.answers ≡ [] → Puts old new (told.Refused refusal) → IsUnopened (handled ++ next ∷ []) new.answers refusal
 is_unopened next handled old new refusal is_opening wants none empty put = record {
   opening = next;
   requests_are = ap (λ (l : List Request). l ++ next ∷ []) none;
@@ -135,10 +146,12 @@ is_unopened next handled old new refusal is_opening wants none empty put = recor
   wants = wants;
 }
 
-no_receipts : (next : Request) (handled : List Request) (answers : List Told) (refusal : Refusal) → IsUnopened (handled ++ next ∷ []) answers refusal → receipts_of answers ≡ []
+no_receipts : (next : Request) (handled : List Request) (answers : List Told) (refusal : Refusal) → IsUnopened (handled ++ next ∷ []) answers refusal →
+    receipts_of answers ≡ []
 no_receipts next handled answers refusal h = ap receipts_of h.answers_are
 
-refused_by : (admission : Unit {0}) (base : Option (List ℕ)) (next : Request) (handled : List Request) (o : OutputState) (refusal : Refusal) (found : LeaveCause) → WhyRefused refusal found → Holds base o → IsUnopened (handled ++ next ∷ []) o.answers refusal
+refused_by : (admission : Unit {0}) (base : Option (List ℕ)) (next : Request) (handled : List Request) (o : OutputState) (refusal : Refusal)
+    (found : LeaveCause) → WhyRefused refusal found → Holds base o → IsUnopened (handled ++ next ∷ []) o.answers refusal
     → LeavesBy base handled next o (stage.Opening admission) found
 refused_by admission base next handled o refusal.NoMemory found e holds h = subst (LeavesBy base handled next o (stage.Opening admission)) (sym e) (
   holds,
@@ -151,9 +164,11 @@ refused_by admission base next handled o refusal.Waiting found e holds h = absur
 refused_by admission base next handled o refusal.NotHere found e holds h = absurd e
 refused_by admission base next handled o (refusal.Foreign seen len) found e holds h = absurd e
 
-pub unopened : (admission back : Unit {0}) (next : Request) (old new : OutputState) (refusal : Refusal) (found : LeaveCause) → AsksForASeat next → PutsGivenUp old new refusal found → TakesUp (stage.Opening admission) next old new (standing.Over (over.Leaves (stage.Opening back) found))
+pub unopened : (admission back : Unit {0}) (next : Request) (old new : OutputState) (refusal : Refusal) (found : LeaveCause) → AsksForASeat next →
+    PutsGivenUp old new refusal found → TakesUp (stage.Opening admission) next old new (standing.Over (over.Leaves (stage.Opening back) found))
 unopened admission back next old new refusal found is_opening (inl h) base handled holds talking =
-    refused_by back base next handled new refusal found h.0 (h.1.holds base holds) (is_unopened next handled old new refusal is_opening (wanting refusal found h.0) talking.0 talking.1 h.1)
+    refused_by back base next handled new refusal found h.0 (h.1.holds base holds)
+    (is_unopened next handled old new refusal is_opening (wanting refusal found h.0) talking.0 talking.1 h.1)
 unopened admission back next old new refusal found is_opening (inr h) base handled holds talking =
     let fresh = still_fresh base old new h.1 holds talking.1 in
     subst (LeavesBy base handled next new (stage.Opening back)) (sym h.0) (

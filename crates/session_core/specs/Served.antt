@@ -219,11 +219,13 @@ AnswersAllOrCut input answers = AnswersAll input answers ⊎ (HasNoFault input �
 
 -- the bytes have a fault, and no read failed
 abbrev pub IsFaulty : List ℕ → Option LoggedReaderState → List Told → Type 0
-IsFaulty input reader answers = ((reads_of reader).failed ≡ false) × (AnswersToFault input answers ⊎ (HasFault input × AnswersToCut (Begins input) answers None))
+IsFaulty input reader answers = ((reads_of reader).failed ≡ false) ×
+    (AnswersToFault input answers ⊎ (HasFault input × AnswersToCut (Begins input) answers None))
 
 -- a request came after at least as many as the ring has room for, and the ring gave it back, and once more when room had been asked for; no read failed
 abbrev pub IsOverrun : List ℕ → Option LoggedReaderState → PushState → List Told → Type 0
-IsOverrun input reader pushes answers = (pushes.in_a_row ≡ 2) × ((reads_of reader).failed ≡ false) × (AnswersToAhead input answers ⊎ AnswersToCutAhead input answers)
+IsOverrun input reader pushes answers = (pushes.in_a_row ≡ 2) × ((reads_of reader).failed ≡ false) ×
+    (AnswersToAhead input answers ⊎ AnswersToCutAhead input answers)
 
 -- the run was full for the opening, or when the call that waited could go on
 abbrev pub IsRunFull : (List Request → Type 0) → List Told → Type 0
@@ -260,7 +262,8 @@ abbrev pub EndsFor : List ℕ → Option LoggedReaderState → PushState → Log
 EndsFor input reader pushes writer seat answers found = EndsAt (Begins input) writer seat answers found ⊎ EndsAfter input reader pushes seat answers found
 
 -- what a session comes to: the requests that it was given, why it ends, and what its writer held before
-pub record ComesBy (Given : List Request → Type 0) (Ends : LoggedWriterState → Option SeatState → List Told → End → Type 0) (base : Option (List ℕ)) (writer : LoggedWriterState) (seat : Option SeatState) (answers : List Told) (found : End) : Type 0 where
+pub record ComesBy (Given : List Request → Type 0) (Ends : LoggedWriterState → Option SeatState → List Told → End → Type 0) (base : Option (List ℕ))
+    (writer : LoggedWriterState) (seat : Option SeatState) (answers : List Told) (found : End) : Type 0 where
   pub talks : AnswersFirst Given answers
   pub written : IsWritten base writer.contents answers found
   pub seated : IsSeated Given seat answers found

@@ -161,7 +161,8 @@ AreAnswered requests answers = ((requests ≡ []) × (answers ≡ [])) ⊎ Talke
 
 -- a conversation in which these requests are answered, the last one perhaps not to its end
 abbrev pub IsConversation : List Request → List Told → Type 0
-IsConversation handled answers = AreAnswered handled answers ⊎ (((given_up : Option Refusal) × IsCut handled answers given_up) ⊎ ((refusal : Refusal) × IsUnopened handled answers refusal))
+IsConversation handled answers = AreAnswered handled answers ⊎ (((given_up : Option Refusal) × IsCut handled answers given_up) ⊎
+    ((refusal : Refusal) × IsUnopened handled answers refusal))
 
 -- the requests of which the first ones are answered, in order
 pub record Converses (requests : List Request) (answers : List Told) : Type 0 where

@@ -29,7 +29,8 @@ module _ {T : Type 0} where
 
   pub found_above : (low : ℕ) (es : List (ℕ × T)) (high n : ℕ) → EntriesRise low es high → high ≤ n → found es n ≡ None
   found_above low [] high n up above = refl
-  found_above low (e ∷ es) high n up above = rw (other_number n e.0 (omega (arith, bounded (suc e.0) es high up.1))) (found_above (suc e.0) es high n up.1 above)
+  found_above low (e ∷ es) high n up above = rw (other_number n e.0 (omega (arith, bounded (suc e.0) es high up.1)))
+      (found_above (suc e.0) es high n up.1 above)
 
   -- an entry from the lowest on
   at_least : (low : ℕ) (es : List (ℕ × T)) (high i : ℕ) (d : ℕ × T) → EntriesRise low es high → i < length es → low ≤ (get_or es i d).0
@@ -37,7 +38,8 @@ module _ {T : Type 0} where
   at_least low (e ∷ es) high zero d up within = up.0
   at_least low (e ∷ es) high (suc i) d up within = omega (arith, up.0, at_least (suc e.0) es high i d up.1 (omega arith))
 
-  numbers_rise : (low : ℕ) (es : List (ℕ × T)) (high i j : ℕ) (d : ℕ × T) → EntriesRise low es high → i ≤ j → j < length es → (get_or es i d).0 ≤ (get_or es j d).0
+  numbers_rise : (low : ℕ) (es : List (ℕ × T)) (high i j : ℕ) (d : ℕ × T) → EntriesRise low es high → i ≤ j → j < length es →
+      (get_or es i d).0 ≤ (get_or es j d).0
   numbers_rise low [] high i j d up le within = absurd (omega arith)
   numbers_rise low (e ∷ es) high zero zero d up le within = omega arith
   numbers_rise low (e ∷ es) high zero (suc j) d up le within = omega (arith, at_least (suc e.0) es high j d up.1 (omega arith))
@@ -59,14 +61,17 @@ module _ {T : Type 0} where
 
   found_nowhere : (es : List (ℕ × T)) (n : ℕ) → ((i : ℕ) (d : ℕ × T) → i < length es → (get_or es i d).0 ≢ n) → found es n ≡ None
   found_nowhere [] n none = refl
-  found_nowhere (e ∷ es) n none = rw (other_number n e.0 (λ same. none 0 e (omega arith) (sym same))) (found_nowhere es n (λ i d within. none (suc i) d (omega arith)))
+  found_nowhere (e ∷ es) n none = rw (other_number n e.0 (λ same. none 0 e (omega arith) (sym same)))
+      (found_nowhere es n (λ i d within. none (suc i) d (omega arith)))
 
   -- a binary search by number ends at the entry, or there is none
-  pub searched : (low : ℕ) (es : List (ℕ × T)) (high n : ℕ) → EntriesRise low es high → (r : Result ℕ ℕ) → IsSearchInRange r (length es) → IsBinarySearchResult (λ e. nat_cmp e.0 n) es r →
+  pub searched : (low : ℕ) (es : List (ℕ × T)) (high n : ℕ) → EntriesRise low es high → (r : Result ℕ ℕ) → IsSearchInRange r (length es) →
+      IsBinarySearchResult (λ e. nat_cmp e.0 n) es r →
       record { there : IfOk r (IsAt es n); gone : IfErr r (λ _. found es n ≡ None) }
   searched low es high n up (Ok i) within equal = record { there = record { within = within; number = λ d. ranked _ n _ (sym (equal d)) }; gone = tt }
   searched low es high n up (Err i) within parted =
-      let rising : IsNonDecreasingBy (λ e. ordering_index (nat_cmp e.0 n)) es = λ a b d le lt. compared (get_or es a d).0 (get_or es b d).0 (numbers_rise low es high a b d up le lt) in
+      let rising : IsNonDecreasingBy (λ e. ordering_index (nat_cmp e.0 n)) es = λ a b d le lt. compared (get_or es a d).0 (get_or es b d).0
+      (numbers_rise low es high a b d up le lt) in
       let split = parted rising in
       record {
         there = tt;
@@ -85,7 +90,8 @@ module _ {T : Type 0} where
   rises_set low (e ∷ es) high n zero v up at = let same : e.0 ≡ n = at.number e in rw same at up
   rises_set low (e ∷ es) high n (suc i) v up at = (up.0, rises_set (suc e.0) es high n i v up.1 (at_tail e es n i at))
 
-  found_set : (low : ℕ) (es : List (ℕ × T)) (high n i : ℕ) (v : T) → EntriesRise low es high → IsAt es n i → (q : ℕ) → found (set es i (n, v)) q ≡ cond (n == q) (Some v) (found es q)
+  found_set : (low : ℕ) (es : List (ℕ × T)) (high n i : ℕ) (v : T) → EntriesRise low es high → IsAt es n i → (q : ℕ) → found (set es i (n, v)) q ≡ cond (n == q)
+      (Some v) (found es q)
   found_set low [] high n i v up at q = absurd (omega (arith, at.within))
   found_set low (e ∷ es) high n zero v up at q =
       let same : e.0 ≡ n = at.number e in
@@ -104,7 +110,8 @@ module _ {T : Type 0} where
   rises_removed low (e ∷ es) high zero up = rises_from (suc e.0) low es high (omega (arith, up.0)) up.1
   rises_removed low (e ∷ es) high (suc i) up = (up.0, rises_removed (suc e.0) es high i up.1)
 
-  found_removed : (low : ℕ) (es : List (ℕ × T)) (high n i : ℕ) → EntriesRise low es high → IsAt es n i → (q : ℕ) → found (remove es i) q ≡ cond (n == q) None (found es q)
+  found_removed : (low : ℕ) (es : List (ℕ × T)) (high n i : ℕ) → EntriesRise low es high → IsAt es n i → (q : ℕ) → found (remove es i) q ≡ cond (n == q) None
+      (found es q)
   found_removed low [] high n i up at q = absurd (omega (arith, at.within))
   found_removed low (e ∷ es) high n zero up at q =
       let same : e.0 ≡ n = at.number e in
@@ -129,7 +136,8 @@ module _ {T : Type 0} where
   found_pushed (e ∷ es) high v q none =
       elim (same_or_not e.0 q) [
         | inl same ↦ elim (same_or_not high q) [
-          | inl here ↦ let bad : cond (e.0 == high) (Some e.1) (found es high) ≡ Some e.1 = rw (here.0, same.1) refl in let worse : None ≡ Some e.1 = sym none ∙ bad in cc
+          | inl here ↦ let bad : cond (e.0 == high) (Some e.1) (found es high) ≡ Some e.1 = rw (here.0, same.1) refl in let worse : None ≡ Some e.1 = sym none ∙
+              bad in cc
           | inr apart ↦ rw (same.1, apart.1) refl
         ]
         | inr other ↦ elim (same_or_not e.0 high) [
@@ -153,23 +161,27 @@ module _ {T : Type 0} where
   same_slots xs ys long each = ext_get_or None xs ys long each
 
   -- the slots with one set
-  one_set : (next : ℕ) (es : List (ℕ × T)) (n : ℕ) (y : Option T) (q : ℕ) → EntriesRise 0 es next → q < next → slot (set (slots_of next es) n y) q ≡ cond (n == q) y (found es q)
+  one_set : (next : ℕ) (es : List (ℕ × T)) (n : ℕ) (y : Option T) (q : ℕ) → EntriesRise 0 es next → q < next → slot (set (slots_of next es) n y) q ≡ cond
+      (n == q) y (found es q)
   one_set next es n y q up below = elim (same_or_not n q) [
     | inl same ↦ rw (same.1, same.0) (get_or-set_same (slots_of next es) q y None (omega (arith, below, length_slots next es)))
     | inr other ↦ rw other.1 (get_or-set_other (slots_of next es) n q y None (λ e. other.0 (sym e)) ∙ slot_slots next es q up)
   ]
 
   -- other entries give the slots with one set
-  slots_one : (next : ℕ) (es fs : List (ℕ × T)) (n : ℕ) (y : Option T) → EntriesRise 0 es next → EntriesRise 0 fs next → ((q : ℕ) → found fs q ≡ cond (n == q) y (found es q)) →
+  slots_one : (next : ℕ) (es fs : List (ℕ × T)) (n : ℕ) (y : Option T) → EntriesRise 0 es next → EntriesRise 0 fs next →
+      ((q : ℕ) → found fs q ≡ cond (n == q) y (found es q)) →
       slots_of next fs ≡ set (slots_of next es) n y
   slots_one next es fs n y up on each = same_slots (slots_of next fs) (set (slots_of next es) n y)
       (length_slots next fs ∙ sym (length-set (slots_of next es) n y ∙ length_slots next es))
       (λ q below. slot_slots next fs q on ∙ (each q ∙ sym (one_set next es n y q up (omega (arith, below, length_slots next fs)))))
 
-  pub slots_set : (next : ℕ) (es : List (ℕ × T)) (n i : ℕ) (v : T) → EntriesRise 0 es next → IsAt es n i → slots_of next (set es i (n, v)) ≡ set (slots_of next es) n (Some v)
+  pub slots_set : (next : ℕ) (es : List (ℕ × T)) (n i : ℕ) (v : T) → EntriesRise 0 es next → IsAt es n i →
+      slots_of next (set es i (n, v)) ≡ set (slots_of next es) n (Some v)
   slots_set next es n i v up at = slots_one next es (set es i (n, v)) n (Some v) up (rises_set 0 es next n i v up at) (found_set 0 es next n i v up at)
 
-  pub slots_removed : (next : ℕ) (es : List (ℕ × T)) (n i : ℕ) → EntriesRise 0 es next → IsAt es n i → slots_of next (remove es i) ≡ set (slots_of next es) n None
+  pub slots_removed : (next : ℕ) (es : List (ℕ × T)) (n i : ℕ) → EntriesRise 0 es next → IsAt es n i →
+      slots_of next (remove es i) ≡ set (slots_of next es) n None
   slots_removed next es n i up at = slots_one next es (remove es i) n None up (rises_removed 0 es next i up) (found_removed 0 es next n i up at)
 
   -- nothing stands there, so clearing it changes nothing
@@ -179,19 +191,23 @@ module _ {T : Type 0} where
     | inr other ↦ rw other.1 refl
   ])
 
-  pub slots_pushed : (next : ℕ) (es : List (ℕ × T)) (v : T) → EntriesRise 0 es next → slots_of (next + 1) (es ++ (next, v) ∷ []) ≡ slots_of next es ++ Some v ∷ []
+  pub slots_pushed : (next : ℕ) (es : List (ℕ × T)) (v : T) → EntriesRise 0 es next → slots_of (next + 1) (es ++ (next, v) ∷ [])
+      ≡ slots_of next es ++ Some v ∷ []
   slots_pushed next es v up =
       let more = es ++ (next, v) ∷ [] in
-      let long : length (slots_of next es ++ Some v ∷ []) ≡ next + 1 = length-append (slots_of next es) (Some v ∷ []) ∙ ap (λ n. n + 1) (length_slots next es) in
+      let long : length (slots_of next es ++ Some v ∷ []) ≡ next + 1 = length-append (slots_of next es) (Some v ∷ []) ∙
+      ap (λ n. n + 1) (length_slots next es) in
       same_slots (slots_of (next + 1) more) (slots_of next es ++ Some v ∷ [])
       (length_slots (next + 1) more ∙ sym long)
-      (λ q below. slot_slots (next + 1) more q (rises_pushed 0 es next v up) ∙ (found_pushed es next v q (found_above 0 es next next up (omega arith)) ∙ sym (at_end q)))
+      (λ q below. slot_slots (next + 1) more q (rises_pushed 0 es next v up) ∙ (found_pushed es next v q (found_above 0 es next next up (omega arith)) ∙
+      sym (at_end q)))
     where
       at_end : (q : ℕ) → slot (slots_of next es ++ Some v ∷ []) q ≡ cond (next == q) (Some v) (found es q)
       at_end q = slot_added (slots_of next es) (Some v) q ∙ rw (length_slots next es, slot_slots next es q up) refl
 
   -- a sum over the slots is a sum over the entries
-  pub sum_slots : (f : Option T → ℕ) → f None ≡ 0 → (low : ℕ) (es : List (ℕ × T)) (next : ℕ) → EntriesRise low es next → sum_by f (slots_of next es) ≡ sum_by (λ e. f (Some e.1)) es
+  pub sum_slots : (f : Option T → ℕ) → f None ≡ 0 → (low : ℕ) (es : List (ℕ × T)) (next : ℕ) → EntriesRise low es next →
+      sum_by f (slots_of next es) ≡ sum_by (λ e. f (Some e.1)) es
   sum_slots f none low [] next up = nothing next 0
     where
       nothing : (n a : ℕ) → sum_by f (map (found {T = T} []) (range_with_len a n)) ≡ 0
@@ -200,7 +216,8 @@ module _ {T : Type 0} where
   sum_slots f none low (e ∷ es) next up =
       let rest = sum_slots f none (suc e.0) es next up.1 in
       let on : EntriesRise 0 es next = rises_from (suc e.0) 0 es next (omega arith) up.1 in
-      let with_first : slots_of next (e ∷ es) ≡ set (slots_of next es) e.0 (Some e.1) = slots_one next es (e ∷ es) e.0 (Some e.1) on (omega arith, up.1) (λ q. refl) in
+      let with_first : slots_of next (e ∷ es) ≡ set (slots_of next es) e.0 (Some e.1) = slots_one next es (e ∷ es) e.0 (Some e.1) on (omega arith, up.1)
+      (λ q. refl) in
       let gone : f (slot (slots_of next es) e.0) ≡ 0 = ap f (slot_slots next es e.0 on ∙ found_below (suc e.0) es next e.0 up.1 (omega arith)) ∙ none in
       let within : e.0 < length (slots_of next es) = omega (arith, length_slots next es, bounded (suc e.0) es next up.1) in
       rw with_first (omega (arith, rest, gone, sum_by-set f (slots_of next es) e.0 (Some e.1) None within, sum_by-cons (λ e. f (Some e.1)) e es))

@@ -68,7 +68,8 @@ module _ {T : Type 0} where
   found_same es fs next after n are stay into back = by_old (found es n) refl
     where
       by_old : (old : Option T) → found es n ≡ old → found fs n ≡ old
-      by_old None none = found_nowhere fs n (λ k e at same. let still = found_at es next k e are (back k e same at) in let bad : None ≡ Some e.value = sym none ∙ ap (found es) (sym same) ∙ still in cc)
+      by_old None none = found_nowhere fs n (λ k e at same. let still = found_at es next k e are (back k e same at) in let bad : None ≡ Some e.value =
+          sym none ∙ ap (found es) (sym same) ∙ still in cc)
       by_old (Some v) some =
           let old = stands es n v some in
           ap (found fs) (sym old.number) ∙ (found_at fs after old.key old.entry stay (into old.key old.entry old.number old.there) ∙ ap Some old.value)
@@ -78,10 +79,12 @@ module _ {T : Type 0} where
   SameBut es fs key = (k : ℕ) → k ≢ key → slot fs k ≡ slot es k
 
   -- where each entry has the number that it had, all are numbered
-  still_numbered : (es fs : List (Option (Entry T))) (next : ℕ) → AreNumbered es next → ((k : ℕ) (e : Entry T) → slot fs k ≡ Some e → (d : Entry T) × (slot es k ≡ Some d) × (d.number ≡ e.number)) → AreNumbered fs next
+  still_numbered : (es fs : List (Option (Entry T))) (next : ℕ) → AreNumbered es next →
+      ((k : ℕ) (e : Entry T) → slot fs k ≡ Some e → (d : Entry T) × (slot es k ≡ Some d) × (d.number ≡ e.number)) → AreNumbered fs next
   still_numbered es fs next are was = record {
     below = λ k e at. let old = was k e at in omega (arith, are.below k old.0 old.1, old.2);
-    once = λ j k d e this that same. let left = was j d this in let right = was k e that in are.once j k left.0 right.0 left.1 right.1 (left.2 ∙ same ∙ sym right.2);
+    once = λ j k d e this that same. let left = was j d this in let right = was k e that in are.once j k left.0 right.0 left.1 right.1
+        (left.2 ∙ same ∙ sym right.2);
   }
 
   -- other entries, with one number's changed
@@ -115,14 +118,16 @@ module _ {T : Type 0} where
   ]
 
   -- the slots with one set
-  one_set : (next : ℕ) (es : List (Option (Entry T))) (n : ℕ) (y : Option T) (q : ℕ) → AreNumbered es next → q < next → slot (set (slots_of next es) n y) q ≡ cond (n == q) y (found es q)
+  one_set : (next : ℕ) (es : List (Option (Entry T))) (n : ℕ) (y : Option T) (q : ℕ) → AreNumbered es next → q < next →
+      slot (set (slots_of next es) n y) q ≡ cond (n == q) y (found es q)
   one_set next es n y q are below = elim (same_or_not n q) [
     | inl same ↦ rw (same.1, same.0) (get_or-set_same (slots_of next es) q y None (omega (arith, below, length_slots next es)))
     | inr other ↦ rw other.1 (get_or-set_other (slots_of next es) n q y None (λ e. other.0 (sym e)) ∙ slot_slots next es q are)
   ]
 
   -- other entries give the slots with one set
-  slots_one : (next : ℕ) (es fs : List (Option (Entry T))) (n : ℕ) (y : Option T) → AreNumbered es next → AreNumbered fs next → ((q : ℕ) → found fs q ≡ cond (n == q) y (found es q)) →
+  slots_one : (next : ℕ) (es fs : List (Option (Entry T))) (n : ℕ) (y : Option T) → AreNumbered es next → AreNumbered fs next →
+      ((q : ℕ) → found fs q ≡ cond (n == q) y (found es q)) →
       slots_of next fs ≡ set (slots_of next es) n y
   slots_one next es fs n y are stay each = same_slots (slots_of next fs) (set (slots_of next es) n y)
       (length_slots next fs ∙ sym (length-set (slots_of next es) n y ∙ length_slots next es))
@@ -178,8 +183,10 @@ module _ {T : Type 0} (next : ℕ) (es : List (Option (Entry T))) (n key : ℕ) 
         omega (arith, there, sum_by-set (λ (x : Option (Entry T)). one (is_some x)) es key (Some (record { number = e.number; value = v })) None within)
 
     -- what is seen of it then
-    pub seen_edited : (capacity : ℕ) → ◌≡◌ {A = List (Option T) × ℕ}
-        (slots_of next (set es key (Some (record { number = e.number; value = v }))), room_of capacity (count_by is_some (set es key (Some (record { number = e.number; value = v })))) next)
+    pub seen_edited : (capacity : ℕ) → ◌≡◌ {A = List (Option T) × ℕ} (
+      slots_of next (set es key (Some (record { number = e.number; value = v }))),
+      room_of capacity (count_by is_some (set es key (Some (record { number = e.number; value = v })))) next,
+    )
         (set (slots_of next es) n (Some v), room_of capacity (count_by is_some es) next)
     seen_edited capacity = rw (slots_edited, live_edited) refl
 
@@ -208,7 +215,8 @@ module _ {T : Type 0} (next : ℕ) (es : List (Option (Entry T))) (are : AreNumb
     | inr other ↦ rw other.1 refl
   ])
 
-  module _ (fs : List (Option (Entry T))) (key : ℕ) (v : T) (free : slot es key ≡ None) (others : SameBut es fs key) (now : slot fs key ≡ Some (record { number = next; value = v })) where
+  module _ (fs : List (Option (Entry T))) (key : ℕ) (v : T) (free : slot es key ≡ None) (others : SameBut es fs key)
+      (now : slot fs key ≡ Some (record { number = next; value = v })) where
     -- an entry is added
     added_one : (e : Entry T) → slot fs key ≡ Some e → e ≡ record { number = next; value = v }
     added_one e is = let here : Some e ≡ Some (record { number = next; value = v }) = sym is ∙ now in cc
@@ -242,8 +250,10 @@ module _ {T : Type 0} (next : ℕ) (es : List (Option (Entry T))) (are : AreNumb
     slots_added =
         let stay = added_numbered in
         let nobody : (e : Entry T) → slot es key ≡ Some e → e.number ≡ next = λ e is. let bad : Some e ≡ None = sym is ∙ free in absurd (cc) in
-        let each = one_found es fs next (next + 1) key next (Some v) are stay others nobody (λ e is. ap (λ (e : Entry T). e.number) (added_one e is)) (found_at fs (next + 1) key (record { number = next; value = v }) stay now) in
-        let long : length (slots_of next es ++ Some v ∷ []) ≡ next + 1 = length-append (slots_of next es) (Some v ∷ []) ∙ ap (λ n. n + 1) (length_slots next es) in
+        let each = one_found es fs next (next + 1) key next (Some v) are stay others nobody (λ e is. ap (λ (e : Entry T). e.number) (added_one e is))
+        (found_at fs (next + 1) key (record { number = next; value = v }) stay now) in
+        let long : length (slots_of next es ++ Some v ∷ []) ≡ next + 1 = length-append (slots_of next es) (Some v ∷ []) ∙
+        ap (λ n. n + 1) (length_slots next es) in
         same_slots (slots_of (next + 1) fs) (slots_of next es ++ Some v ∷ [])
         (length_slots (next + 1) fs ∙ sym long)
         (λ q below. slot_slots (next + 1) fs q stay ∙ (each q ∙ sym (at_end q)))
@@ -258,17 +268,30 @@ module _ {T : Type 0} where
     where
       nothing : (n a : ℕ) → count_by is_some (map (found {T = T} []) (range_with_len a n)) ≡ 0
       nothing zero a = refl
-      nothing (suc n) a = omega (arith, nothing n (a + 1), sum_by-cons (λ (x : Option T). one (is_some x)) None (map (found {T = T} []) (range_with_len (a + 1) n)))
+      nothing (suc n) a = omega (
+        arith,
+        nothing n (a + 1),
+        sum_by-cons (λ (x : Option T). one (is_some x)) None
+            (map (found {T = T} []) (range_with_len (a + 1) n)),
+      )
   live_slots next (None ∷ es) are =
       let rest = live_slots next es (tail_numbered None es next are) in
-      let same : slots_of next (None ∷ es) ≡ slots_of next es = same_slots (slots_of next (None ∷ es)) (slots_of next es) (length_slots next (None ∷ es) ∙ sym (length_slots next es))
+      let same : slots_of next (None ∷ es) ≡ slots_of next es = same_slots (slots_of next (None ∷ es)) (slots_of next es) (length_slots next (None ∷ es) ∙
+      sym (length_slots next es))
       (λ q _. slot_slots next (None ∷ es) q are ∙ sym (slot_slots next es q (tail_numbered None es next are))) in
       ap live same ∙ omega (arith, rest, sum_by-cons (λ (x : Option (Entry T)). one (is_some x)) None es)
   live_slots next (Some e ∷ es) are =
       let less = tail_numbered (Some e) es next are in
       let rest = live_slots next es less in
-      let with_first : slots_of next (Some e ∷ es) ≡ set (slots_of next es) e.number (Some e.value) = slots_one next es (Some e ∷ es) e.number (Some e.value) less are (λ q. refl) in
+      let with_first : slots_of next (Some e ∷ es) ≡ set (slots_of next es) e.number (Some e.value) = slots_one next es (Some e ∷ es) e.number
+      (Some e.value) less are (λ q. refl) in
       let nowhere : found es e.number ≡ None = found_nowhere es e.number (λ k d at same. omega (arith, are.once 0 (suc k) e d refl at (sym same))) in
       let gone : one (is_some (slot (slots_of next es) e.number)) ≡ 0 = rw (slot_slots next es e.number less, nowhere) refl in
       let within : e.number < length (slots_of next es) = omega (arith, length_slots next es, are.below 0 e refl) in
-      rw with_first (omega (arith, rest, gone, sum_by-set (λ (x : Option T). one (is_some x)) (slots_of next es) e.number (Some e.value) None within, sum_by-cons (λ (x : Option (Entry T)). one (is_some x)) (Some e) es))
+      rw with_first (omega (
+        arith,
+        rest,
+        gone,
+        sum_by-set (λ (x : Option T). one (is_some x)) (slots_of next es) e.number (Some e.value) None within,
+        sum_by-cons (λ (x : Option (Entry T)). one (is_some x)) (Some e) es,
+      ))

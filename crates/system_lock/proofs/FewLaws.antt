@@ -61,15 +61,18 @@ either_of false b P e f g = g e
 
 at_member : (P : ℕ → Type 0) (q : ℕ) (xs : List ℕ) → list_any (λ x. q == x) xs ≡ true → All P xs → P q
 at_member P q [] e h = absurd (cc)
-at_member P q (x ∷ xs) e h = either_of (q == x) (list_any (λ y. q == y) xs) (P q) e (λ t. subst P (sym (grind (arith, nat_tests))) (All-head P x xs h)) (λ t. at_member P q xs t (All-tail P x xs h))
+at_member P q (x ∷ xs) e h = either_of (q == x) (list_any (λ y. q == y) xs) (P q) e (λ t. subst P (sym (grind (arith, nat_tests))) (All-head P x xs h))
+    (λ t. at_member P q xs t (All-tail P x xs h))
 
 apart_by : {a b : ℕ} → a ≡ b → (a == b) ≡ false → ⊥
 apart_by e f = grind (arith, nat_tests)
 
-few_are_full : {T : Type 0} (slots : List (Option T)) (most : ℕ) → live slots ≤ most → (some : List ℕ) → AreDistinct some → All (λ p. is_some (slot slots p) ≡ true) some → length some ≤ most
+few_are_full : {T : Type 0} (slots : List (Option T)) (most : ℕ) → live slots ≤ most → (some : List ℕ) → AreDistinct some →
+    All (λ p. is_some (slot slots p) ≡ true) some → length some ≤ most
 few_are_full slots most few some distinct full =
     let apart = IsDistinct-from_AllPairs Decides-eqb some (λ i j d l k e. apart_by e (distinct i j d l k)) in
-    let within = length-le_from_is_member nat_eq_equiv some (full_from 0 slots) apart (λ q h. found q 0 q slots (omega arith) (at_member (λ p. is_some (slot slots p) ≡ true) q some h full)) in
+    let within = length-le_from_is_member nat_eq_equiv some (full_from 0 slots) apart
+    (λ q h. found q 0 q slots (omega arith) (at_member (λ p. is_some (slot slots p) ≡ true) q some h full)) in
     omega (arith, within, counted 0 slots, few)
 
 -- ---- of each history, no more processes are live than there may be
@@ -87,14 +90,18 @@ adds_few w (act.Call call.Fork) few = one_more w (is_full w) refl few
 adds_few w (act.Call other) few = omega (arith, few)
 adds_few w other few = omega (arith, few)
 
-step_few : (w : World) (a : Act) (found : Option Stepped) → ((s : Stepped) → found ≡ Some s → Counts w s.world (adds w a) (ended a) (closes a)) → live w.processes ≤ PROCESSES_MAX →
+step_few : (w : World) (a : Act) (found : Option Stepped) → ((s : Stepped) → found ≡ Some s → Counts w s.world (adds w a) (ended a) (closes a)) →
+    live w.processes ≤ PROCESSES_MAX →
     live (option_map_or (λ s. s.world) found w).processes ≤ PROCESSES_MAX
 step_few w a None counts few = few
 step_few w a (Some s) counts few = let living = (counts s refl).living in omega (arith, living, adds_few w a few)
 
-few_from : StepPlansProcesses → (bounds : Bounds) (w : World) (rs : List Record) → live w.processes ≤ PROCESSES_MAX → live (world_from bounds w rs).processes ≤ PROCESSES_MAX
+few_from : StepPlansProcesses → (bounds : Bounds) (w : World) (rs : List Record) → live w.processes ≤ PROCESSES_MAX →
+    live (world_from bounds w rs).processes ≤ PROCESSES_MAX
 few_from plans bounds w [] few = few
-few_from plans bounds w (r ∷ rs) few = few_from plans bounds (after bounds w r) rs (step_few w r.act (step bounds w r.actor r.act) (λ s is. plans bounds w r.actor r.act s is) few)
+few_from plans bounds w (r ∷ rs) few = few_from plans bounds (after bounds w r) rs
+    (step_few w r.act (step bounds w r.actor r.act) (λ s is. plans bounds w r.actor r.act s is) few)
 
 pub live_are_few : StepPlansProcesses → LiveAreFew
-live_are_few plans b some distinct live = few_are_full (world_now b).processes PROCESSES_MAX (few_from plans b.limits.bounds empty_world b.history (omega arith)) some distinct live
+live_are_few plans b some distinct live = few_are_full (world_now b).processes PROCESSES_MAX
+    (few_from plans b.limits.bounds empty_world b.history (omega arith)) some distinct live

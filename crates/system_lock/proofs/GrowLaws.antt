@@ -34,7 +34,8 @@ opens_grow old new (request.Attach process) (Ok (opened.Refused s)) h = more old
 opens_grow old new (request.Attach process) (Err told) h = same old new h.0
 opens_grow old new (request.Call call) r h = absurd h
 
-pub calls_grow : (old new : BookState) (s t : SeatState) (asked : Call) (r : Result Receipted Refusal) → CallsIn old new s t asked r → Grows old.history new.history
+pub calls_grow : (old new : BookState) (s t : SeatState) (asked : Call) (r : Result Receipted Refusal) → CallsIn old new s t asked r →
+    Grows old.history new.history
 calls_grow old new s t asked (Ok receipt) h = more old.history new.history receipt.record_is h.appends.history
 calls_grow old new s t asked (Err told) h = same old new h.0
 

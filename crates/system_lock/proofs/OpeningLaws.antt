@@ -27,17 +27,20 @@ use Rattle.system_lock.specs.Kernel.{IsError, IsNoError, IsWanting, Opens}
 use Rattle.system_lock.specs.Proved.Reasons.{OpensBy}
 
 -- a page with one fault, whose condition holds
-refused_page : (condition : Bool) (error : Errno) (effect : Decided) → condition ≡ true → IsError (decided_by (record { faults = (condition, error) ∷ []; effect = effect })).outcome
+refused_page : (condition : Bool) (error : Errno) (effect : Decided) → condition ≡ true →
+    IsError (decided_by (record { faults = (condition, error) ∷ []; effect = effect })).outcome
 refused_page true error effect e = tt
 refused_page false error effect e = absurd cc
 
 -- and one whose condition does not hold
-granted_page : (condition : Bool) (error : Errno) (effect : Decided) → condition ≡ false → IsNoError effect.outcome → IsNoError (decided_by (record { faults = (condition, error) ∷ []; effect = effect })).outcome
+granted_page : (condition : Bool) (error : Errno) (effect : Decided) → condition ≡ false → IsNoError effect.outcome →
+    IsNoError (decided_by (record { faults = (condition, error) ∷ []; effect = effect })).outcome
 granted_page true error effect e granted = absurd cc
 granted_page false error effect e granted = granted
 
 -- the outcome of a step that may be none
-told_outcome : (may : Bool) (w : World) (bytes : List ℕ) (d : Decided) (o : Outcome) → option_map (λ (s : Stepped). s.outcome) (option_map (stepped w bytes) (if may then Some d else None)) ≡ Some o → d.outcome ≡ o
+told_outcome : (may : Bool) (w : World) (bytes : List ℕ) (d : Decided) (o : Outcome) →
+    option_map (λ (s : Stepped). s.outcome) (option_map (stepped w bytes) (if may then Some d else None)) ≡ Some o → d.outcome ≡ o
 told_outcome true w bytes d o e = cc
 told_outcome false w bytes d o e = absurd cc
 
@@ -49,7 +52,8 @@ wants : (full : Bool) (refusal : Refusal) → IsDue (first_refusal ((full, RunFu
 wants true refusal h = subst IsWanting (sym h) tt
 wants false refusal h = subst IsWanting (sym h) tt
 
-pub joined : (old new : BookState) (r : Result Opened Refusal) → IfOk r (λ (o : Opened). Joins old new o) → IfErr r (λ (refusal : Refusal). IsDue (join_refusal old) refusal) → OpensBy request.Join r
+pub joined : (old new : BookState) (r : Result Opened Refusal) → IfOk r (λ (o : Opened). Joins old new o) →
+    IfErr r (λ (refusal : Refusal). IsDue (join_refusal old) refusal) → OpensBy request.Join r
 joined old new (Ok (opened.Seated s)) h e =
     let w = world_now old in
     let same = told_outcome (next_pid old == length w.processes) w [] (decided_by (join w)) h.0.record_is.outcome h.1.1.appends.outcome in (
@@ -66,7 +70,8 @@ joined old new (Ok (opened.Refused s)) h e =
     )
 joined old new (Err refusal) h e = wants (is_too_full old (length (world_now old).processes) act.Join) refusal e
 
-pub attached : (old new : BookState) (process : ℕ) (r : Result Opened Refusal) → IfOk r (λ (o : Opened). Attaches old new process o) → IfErr r (λ (refusal : Refusal). IsDue (attach_refusal old process) refusal) → OpensBy (request.Attach process) r
+pub attached : (old new : BookState) (process : ℕ) (r : Result Opened Refusal) → IfOk r (λ (o : Opened). Attaches old new process o) →
+    IfErr r (λ (refusal : Refusal). IsDue (attach_refusal old process) refusal) → OpensBy (request.Attach process) r
 attached old new process (Ok (opened.Seated s)) h e =
     let w = world_now old in
     let same : (decided_by (attach w process)).outcome ≡ h.0.record_is.outcome = cc (h.1.1.appends.outcome) in (

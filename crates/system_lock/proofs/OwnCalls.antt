@@ -77,9 +77,11 @@ own_first a c o (Waits moved edit) =
 
 own_read : (w : World) (p : ℕ) (c : Call) (count : ℕ) (o : OpenDescriptor) (x : Option ℕ) → Own p (read_from w p c count o x)
 own_read w p c count o None = search (rules, own_rules)
-own_read w p c count o (Some pipe) = own_if p (eqb count 0) (tells (Data [])) (first_try p c o (read_try w pipe count)) (own_tells p (Data [])) (own_first p c o (read_try w pipe count))
+own_read w p c count o (Some pipe) = own_if p (eqb count 0) (tells (Data [])) (first_try p c o (read_try w pipe count)) (own_tells p (Data []))
+    (own_first p c o (read_try w pipe count))
 
-own_write : (bounds : Bounds) (w : World) (p : ℕ) (c : Call) (start : ℕ) (bytes : List ℕ) (o : OpenDescriptor) (x : Option ℕ) → Own p (write_to bounds w p c start bytes o x)
+own_write : (bounds : Bounds) (w : World) (p : ℕ) (c : Call) (start : ℕ) (bytes : List ℕ) (o : OpenDescriptor) (x : Option ℕ) →
+    Own p (write_to bounds w p c start bytes o x)
 own_write bounds w p c start bytes o None = search (rules, own_rules)
 own_write bounds w p c start bytes o (Some pipe) =
     let t = write_try bounds w pipe source.Act (length bytes) 0 in

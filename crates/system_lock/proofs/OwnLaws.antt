@@ -68,7 +68,8 @@ keeps_twice a u v w h k = record {
 }
 
 -- a new process waits in no call
-waiter_pushed : (ps : List (Option Process)) (table : List (Option ℕ)) (attached : Bool) (q : ℕ) → waiter (slot (ps ++ Some (process_with table attached) ∷ []) q) ≡ waiter (slot ps q)
+waiter_pushed : (ps : List (Option Process)) (table : List (Option ℕ)) (attached : Bool) (q : ℕ) →
+    waiter (slot (ps ++ Some (process_with table attached) ∷ []) q) ≡ waiter (slot ps q)
 waiter_pushed [] table attached zero = refl
 waiter_pushed [] table attached (suc q) = refl
 waiter_pushed (p ∷ ps) table attached zero = refl
@@ -79,12 +80,14 @@ live_pushed [] p q h = cc
 live_pushed (x ∷ ps) p zero h = h
 live_pushed (x ∷ ps) p (suc q) h = live_pushed ps p q h
 
-target_pushed : (ds : List (Option Description)) (d : Option Description) (n : ℕ) (t : Target) → target_of (slot ds n) ≡ Some t → target_of (slot (ds ++ d ∷ []) n) ≡ Some t
+target_pushed : (ds : List (Option Description)) (d : Option Description) (n : ℕ) (t : Target) → target_of (slot ds n) ≡ Some t →
+    target_of (slot (ds ++ d ∷ []) n) ≡ Some t
 target_pushed [] d n t h = cc
 target_pushed (x ∷ ds) d zero t h = h
 target_pushed (x ∷ ds) d (suc n) t h = target_pushed ds d n t h
 
-target_edited : (ds : List (Option Description)) (m : ℕ) (f : Description → Description) → StaysOpen f → (n : ℕ) → target_of (slot (edited m f ds) n) ≡ target_of (slot ds n)
+target_edited : (ds : List (Option Description)) (m : ℕ) (f : Description → Description) → StaysOpen f → (n : ℕ) →
+    target_of (slot (edited m f ds) n) ≡ target_of (slot ds n)
 target_edited [] m f stays n = refl
 target_edited (None ∷ ds) zero f stays zero = refl
 target_edited (Some d ∷ ds) zero f stays zero = ap Some (stays.target d)
@@ -93,7 +96,8 @@ target_edited (x ∷ ds) (suc m) f stays zero = refl
 target_edited (x ∷ ds) (suc m) f stays (suc n) = target_edited ds m f stays n
 
 -- an edit of a description that leaves what it is open on
-description_keeps : (a : ℕ) (w : World) (m : ℕ) (f : Description → Description) → StaysOpen f → Keeps a w (record w { descriptions = edited m f w.descriptions })
+description_keeps : (a : ℕ) (w : World) (m : ℕ) (f : Description → Description) → StaysOpen f →
+    Keeps a w (record w { descriptions = edited m f w.descriptions })
 description_keeps a w m f stays = record {
   waiters = λ q other. refl;
   live = λ q other there. there;
@@ -153,10 +157,12 @@ processes_keep a w (on_process.Exit p) own = own_edit a w p None own
 processes_keep a w on_process.Close own = keeps_same a w (with_processes w on_process.Close) refl refl
 
 -- a descriptor of the act's own process, and perhaps a description more
-entry_keeps : (a : ℕ) (w v : World) (p : ℕ) (x : Option Process) (d : Option Description) → p ≡ a → v.processes ≡ set w.processes p x → v.descriptions ≡ w.descriptions ++ d ∷ [] → Keeps a w v
+entry_keeps : (a : ℕ) (w v : World) (p : ℕ) (x : Option Process) (d : Option Description) → p ≡ a → v.processes ≡ set w.processes p x →
+    v.descriptions ≡ w.descriptions ++ d ∷ [] → Keeps a w v
 entry_keeps a w v p x d is processes descriptions = record {
   waiters = λ q other. ap (λ (ps : List (Option Process)). waiter (slot ps q)) processes ∙ ap waiter (set_other w.processes p q x (not_own p a q is other));
-  live = λ q other there. ap (λ (ps : List (Option Process)). is_some (slot ps q)) processes ∙ (ap is_some (set_other w.processes p q x (not_own p a q is other)) ∙ there);
+  live = λ q other there. ap (λ (ps : List (Option Process)). is_some (slot ps q)) processes ∙
+      (ap is_some (set_other w.processes p q x (not_own p a q is other)) ∙ there);
   targets = λ n t h. ap (λ (ds : List (Option Description)). target_of (slot ds n)) descriptions ∙ target_pushed w.descriptions d n t h;
 }
 
@@ -181,7 +187,8 @@ change_keeps : (a : ℕ) (w : World) (bytes : List ℕ) (c : Change) → IsOwn a
 change_keeps a w bytes c own =
     let u = with_files w bytes c.files in
     let v = with_processes u c.process in
-    keeps_twice a w u (changed w bytes c) (files_keep a w bytes c.files) (keeps_twice a u v (changed w bytes c) (processes_keep a u c.process own.process) (table_keeps a v c.table own.table))
+    keeps_twice a w u (changed w bytes c) (files_keep a w bytes c.files) (keeps_twice a u v (changed w bytes c) (processes_keep a u c.process own.process)
+    (table_keeps a v c.table own.table))
 
 -- the pipe of a description
 abbrev pipe_to : Option Target → Option ℕ
@@ -208,7 +215,8 @@ number_pipe w fd (Some n) = description_pipe fd n (slot w.descriptions n)
 pipe_is : (w : World) (q : ℕ) → pipe_waited w q ≡ pipe_by w.descriptions (waiter (slot w.processes q))
 pipe_is w q = at (slot w.processes q) refl
   where
-    waits : (x : Process) (parked : Option Parked) → slot w.processes q ≡ Some x → pipe_for w q parked ≡ pipe_by w.descriptions (option_map (waiter_with x.table) parked)
+    waits : (x : Process) (parked : Option Parked) → slot w.processes q ≡ Some x → pipe_for w q parked ≡ pipe_by w.descriptions
+        (option_map (waiter_with x.table) parked)
     waits x None is = refl
     waits x (Some parked) is =
         ap (λ (y : Option Process). pipe_of (opened_number w parked.fd (slot (table_of y) parked.fd))) is ∙ number_pipe w parked.fd (slot x.table parked.fd)
@@ -247,8 +255,10 @@ waits_with (Some y) p h = (y, refl, of_call y.parked h)
     of_call (Some parked) k = let same : waiter_with y.table parked ≡ p = cc in ap (λ (w : Waiter). w.table) same
 
 -- on the same pipe as before waits each process but the act's own
-pub own_pipe : SweepLeaves → (a : ℕ) (w : World) (bytes : List ℕ) (c : Change) → IsOwn a c → IsWhole w → (q : ℕ) → a ≢ q → pipe_waited (sweep (changed w bytes c)) q ≡ pipe_waited w q
-own_pipe leaves a w bytes c own whole q other = pipe_is (sweep v) q ∙ (ap (pipe_by (sweep v).descriptions) (k.waiters q other) ∙ (at (slot w.processes q) refl ∙ sym (pipe_is w q)))
+pub own_pipe : SweepLeaves → (a : ℕ) (w : World) (bytes : List ℕ) (c : Change) → IsOwn a c → IsWhole w → (q : ℕ) → a ≢ q →
+    pipe_waited (sweep (changed w bytes c)) q ≡ pipe_waited w q
+own_pipe leaves a w bytes c own whole q other = pipe_is (sweep v) q ∙
+    (ap (pipe_by (sweep v).descriptions) (k.waiters q other) ∙ (at (slot w.processes q) refl ∙ sym (pipe_is w q)))
   where
     v : World
     v = changed w bytes c
@@ -256,15 +266,18 @@ own_pipe leaves a w bytes c own whole q other = pipe_is (sweep v) q ∙ (ap (pip
     k : Keeps a w (changed w bytes c)
     k = change_keeps a w bytes c own
 
-    swept : (n : ℕ) (t : Target) → is_referred (changed w bytes c).processes n ≡ true → target_of (slot w.descriptions n) ≡ Some t → target_of (slot (sweep (changed w bytes c)).descriptions n) ≡ Some t
+    swept : (n : ℕ) (t : Target) → is_referred (changed w bytes c).processes n ≡ true → target_of (slot w.descriptions n) ≡ Some t →
+        target_of (slot (sweep (changed w bytes c)).descriptions n) ≡ Some t
     swept n t refers h =
         ap target_of ((leaves (changed w bytes c)).descriptions n ∙ ap (λ b. cond b (slot (changed w bytes c).descriptions n) None) refers) ∙ k.targets n t h
 
-    stays : (n : ℕ) (d : Option Description) → slot w.descriptions n ≡ d → is_some d ≡ true → is_referred (changed w bytes c).processes n ≡ true → pipe_to (target_of (slot (sweep (changed w bytes c)).descriptions n)) ≡ pipe_to (target_of d)
+    stays : (n : ℕ) (d : Option Description) → slot w.descriptions n ≡ d → is_some d ≡ true → is_referred (changed w bytes c).processes n ≡ true →
+        pipe_to (target_of (slot (sweep (changed w bytes c)).descriptions n)) ≡ pipe_to (target_of d)
     stays n None is there refers = cc
     stays n (Some d) is there refers = ap pipe_to (swept n d.target refers (ap target_of is))
 
-    entry : (x : Process) (parked : Parked) → slot w.processes q ≡ Some x → x.parked ≡ Some parked → (e : Option ℕ) → slot x.table parked.fd ≡ e → pipe_entry (sweep (changed w bytes c)).descriptions e ≡ pipe_entry w.descriptions e
+    entry : (x : Process) (parked : Parked) → slot w.processes q ≡ Some x → x.parked ≡ Some parked → (e : Option ℕ) → slot x.table parked.fd ≡ e →
+        pipe_entry (sweep (changed w bytes c)).descriptions e ≡ pipe_entry w.descriptions e
     entry x parked is waits None leads = refl
     entry x parked is waits (Some n) leads =
         let was : waiter (slot w.processes q) ≡ Some (waiter_with x.table parked) = ap waiter is ∙ ap (option_map (waiter_with x.table)) waits in
@@ -273,17 +286,21 @@ own_pipe leaves a w bytes c own whole q other = pipe_is (sweep v) q ∙ (ap (pip
         stays n (slot w.descriptions n) refl (whole.processes q x is parked.fd n leads) refers
 
     call : (x : Process) (parked : Option Parked) → slot w.processes q ≡ Some x → x.parked ≡ parked →
-        pipe_by (sweep (changed w bytes c)).descriptions (option_map (waiter_with x.table) parked) ≡ pipe_by w.descriptions (option_map (waiter_with x.table) parked)
+        pipe_by (sweep (changed w bytes c)).descriptions (option_map (waiter_with x.table) parked) ≡ pipe_by w.descriptions
+        (option_map (waiter_with x.table) parked)
     call x None is waits = refl
     call x (Some parked) is waits = entry x parked is waits (slot x.table parked.fd) refl
 
-    at : (there : Option Process) → slot w.processes q ≡ there → pipe_by (sweep (changed w bytes c)).descriptions (waiter there) ≡ pipe_by w.descriptions (waiter there)
+    at : (there : Option Process) → slot w.processes q ≡ there → pipe_by (sweep (changed w bytes c)).descriptions (waiter there) ≡ pipe_by w.descriptions
+        (waiter there)
     at None is = refl
     at (Some x) is = call x x.parked is refl
 
 -- each process but the act's own lives on
-pub own_live : SweepLeaves → (a : ℕ) (w : World) (bytes : List ℕ) (c : Change) → IsOwn a c → (q : ℕ) → a ≢ q → is_some (slot w.processes q) ≡ true → is_some (slot (sweep (changed w bytes c)).processes q) ≡ true
-own_live leaves a w bytes c own q other there = ap (λ (ps : List (Option Process)). is_some (slot ps q)) (leaves (changed w bytes c)).processes ∙ (change_keeps a w bytes c own).live q other there
+pub own_live : SweepLeaves → (a : ℕ) (w : World) (bytes : List ℕ) (c : Change) → IsOwn a c → (q : ℕ) → a ≢ q → is_some (slot w.processes q) ≡ true →
+    is_some (slot (sweep (changed w bytes c)).processes q) ≡ true
+own_live leaves a w bytes c own q other there = ap (λ (ps : List (Option Process)). is_some (slot ps q)) (leaves (changed w bytes c)).processes ∙
+    (change_keeps a w bytes c own).live q other there
 
 -- one that waits on no pipe is not ready
 pub unpiped : (bounds : Bounds) (w : World) (q : ℕ) → pipe_waited w q ≡ None → is_ready bounds w q ≡ false

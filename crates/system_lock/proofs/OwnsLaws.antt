@@ -52,7 +52,8 @@ taken_on : (bounds : Bounds) (f h : List Record) (r : Receipted) → IsPrefix f 
 unfolding stands_on
 taken_on bounds f h r p s = ap (λ (l : List Record). took (world_of bounds l) r.record_is) (before_is h r (stands_on f h r p s) ∙ sym (before_is f r s))
 
-sums_on : (bounds : Bounds) (f h : List Record) (rs : List Receipted) → IsPrefix f h → All (StandsIn f) rs → sum_by (taken_in bounds h) rs ≡ sum_by (taken_in bounds f) rs
+sums_on : (bounds : Bounds) (f h : List Record) (rs : List Receipted) → IsPrefix f h → All (StandsIn f) rs →
+    sum_by (taken_in bounds h) rs ≡ sum_by (taken_in bounds f) rs
 sums_on bounds f h [] p all = refl
 sums_on bounds f h (r ∷ rs) p all =
     let one = taken_on bounds f h r p (All-head (StandsIn f) r rs all) in
@@ -82,7 +83,11 @@ owns_grown limits f h s grows own = owns_since limits f h s (grows h (itself_beg
 
 -- ---- one record more
 
-same_counts : (a b c x y z : ℕ) → a ≡ x → b ≡ y → c ≡ z → (let l : Counted = record { records = a; bytes_in = b; bytes_out = c } in l) ≡ record { records = x; bytes_in = y; bytes_out = z }
+same_counts : (a b c x y z : ℕ) → a ≡ x → b ≡ y → c ≡ z → (let l : Counted = record { records = a; bytes_in = b; bytes_out = c } in l) ≡ record {
+  records = x;
+  bytes_in = y;
+  bytes_out = z;
+}
 same_counts a b c x y z p q r = rw p (rw q (rw r refl))
 
 -- the receipt of the record that comes next stands there
@@ -116,23 +121,28 @@ one_more bounds h s t r place actor receives counts own =
     let goes : IsPrefix h on = (r.record_is ∷ [], refl) in
     let stands = next_stands h r place in
     let before = sums_on bounds h on s.receipts goes own.stand in
-    let now : taken_in bounds on r ≡ took (world_of bounds h) r.record_is = ap (λ (l : List Record). took (world_of bounds l) r.record_is) (before_is on r stands) in
+    let now : taken_in bounds on r ≡ took (world_of bounds h) r.record_is = ap (λ (l : List Record). took (world_of bounds l) r.record_is)
+    (before_is on r stands) in
     let taken = sum_by_push (taken_in bounds on) s.receipts r in
     let given = sum_by_push given_by s.receipts r in
     let longer = length-append s.receipts (r ∷ []) in
     let receipts = receives.receipts in
     record {
       actors = subst (λ (pid : ℕ). All (λ (x : Receipted). x.record_is.actor ≡ pid) t.receipts) (sym receives.pid)
-          (subst (All (λ (x : Receipted). x.record_is.actor ≡ s.pid)) (sym receipts) (All-push (λ (x : Receipted). x.record_is.actor ≡ s.pid) s.receipts r own.actors actor));
-      stand = subst (All (StandsIn on)) (sym receipts) (All-push (StandsIn on) s.receipts r (All-weaker (StandsIn h) (StandsIn on) (λ x. stands_on h on x goes) s.receipts own.stand) stands);
+          (subst (All (λ (x : Receipted). x.record_is.actor ≡ s.pid)) (sym receipts)
+          (All-push (λ (x : Receipted). x.record_is.actor ≡ s.pid) s.receipts r own.actors actor));
+      stand = subst (All (StandsIn on)) (sym receipts)
+          (All-push (StandsIn on) s.receipts r (All-weaker (StandsIn h) (StandsIn on) (λ x. stands_on h on x goes) s.receipts own.stand) stands);
       ascend = subst (AllPairs Later) (sym receipts) (ascends h s.receipts r place own.stand own.ascend);
       seen = receives.seen ∙ (sym (fold_push (λ (seen : ℕ) (x : Receipted). x.place + 1) 0 s.receipts r) ∙ ap seen_with (sym receipts));
       counts = counts ∙
           (ap (counted_more (took (world_of bounds h) r.record_is) (gave (world_of bounds h) r.record_is)) own.counts ∙
-          (same_counts _ _ _ _ _ _ (omega (arith, longer)) (omega (arith, before, now, taken)) (omega (arith, given)) ∙ ap (counted_of bounds on) (sym receipts)));
+          (same_counts _ _ _ _ _ _ (omega (arith, longer)) (omega (arith, before, now, taken)) (omega (arith, given)) ∙
+          ap (counted_of bounds on) (sym receipts)));
     }
 
-pub owns_recorded : (limits : Option Limits) (old new : BookState) (s t : SeatState) (a : Act) (r : Receipted) → limits ≡ Some old.limits → OwnsUnder limits old.history s → Records old new s t a r → OwnsUnder limits new.history t
+pub owns_recorded : (limits : Option Limits) (old new : BookState) (s t : SeatState) (a : Act) (r : Receipted) → limits ≡ Some old.limits →
+    OwnsUnder limits old.history s → Records old new s t a r → OwnsUnder limits new.history t
 owns_recorded limits old new s t a r is own h =
     let known : OwnsIn old.limits.bounds old.history s = subst (λ (l : Option Limits). OwnsUnder l old.history s) is own in
     let more = one_more old.limits.bounds old.history s t r h.appends.place h.appends.actor_is h.receives h.counts known in
@@ -142,9 +152,11 @@ owns_recorded limits old new s t a r is own h =
 
 -- a join and an attach take nothing
 took_first : (w : World) (r : Record) (a : Act) → r.act ≡ a → turn w r.actor a ≡ None → took w r ≡ 0
-took_first w r a is none = ap (λ (b : Act). option_map_or (took_in (total r.outcome)) (turn w r.actor b) 0) is ∙ ap (λ t. option_map_or (took_in (total r.outcome)) t 0) none
+took_first w r a is none = ap (λ (b : Act). option_map_or (took_in (total r.outcome)) (turn w r.actor b) 0) is ∙
+    ap (λ t. option_map_or (took_in (total r.outcome)) t 0) none
 
-owns_first : (limits : Option Limits) (old new : BookState) (process : ℕ) (a : Act) (s : SeatState) (r : Receipted) → limits ≡ Some old.limits → turn (world_of old.limits.bounds old.history) r.record_is.actor a ≡ None
+owns_first : (limits : Option Limits) (old new : BookState) (process : ℕ) (a : Act) (s : SeatState) (r : Receipted) → limits ≡ Some old.limits →
+    turn (world_of old.limits.bounds old.history) r.record_is.actor a ≡ None
     → CountsOwn s.counted s.receipts → IsOpening old new process a s r → OwnsUnder limits new.history s
 owns_first limits old new process a s r is none counts opens =
     let w = world_of old.limits.bounds old.history in
@@ -159,12 +171,20 @@ owns_first limits old new process a s r is none counts opens =
     let all = subst (λ (x : SeatState). CountsOwn x.counted x.receipts) opens.seat counts in
     let takes = took_first w r.record_is a opens.appends.act_is none in
     let gives : given_by r ≡ 0 = (let sums = all.given_are in omega (arith, sums)) in
-    let counted : s.counted ≡ counted_more (took w r.record_is) (gave w r.record_is) (only_records 0) = ap (λ (x : SeatState). x.counted) opens.seat ∙ same_counts _ _ _ _ _ _ refl (omega (arith, takes)) (omega (arith, gives)) in
-    let receives : Receives bare s r = record { pid = ap (λ (x : SeatState). x.pid) opens.seat; seen = ap (λ (x : SeatState). x.seen) opens.seat; receipts = ap (λ (x : SeatState). x.receipts) opens.seat } in
+    let counted : s.counted ≡ counted_more (took w r.record_is) (gave w r.record_is) (only_records 0) = ap (λ (x : SeatState). x.counted) opens.seat ∙
+    same_counts _ _ _ _ _ _ refl (omega (arith, takes)) (omega (arith, gives)) in
+    let receives : Receives bare s r = record {
+      pid = ap (λ (x : SeatState). x.pid) opens.seat;
+      seen = ap (λ (x : SeatState). x.seen) opens.seat;
+      receipts =
+          ap (λ (x : SeatState). x.receipts) opens.seat;
+    } in
     let more = one_more old.limits.bounds old.history bare s r opens.appends.place opens.appends.actor_is receives counted nothing in
-    subst (λ (l : Option Limits). OwnsUnder l new.history s) (sym is) (subst (λ (l : List Record). OwnsIn old.limits.bounds l s) (sym opens.appends.history) more)
+    subst (λ (l : Option Limits). OwnsUnder l new.history s) (sym is)
+    (subst (λ (l : List Record). OwnsIn old.limits.bounds l s) (sym opens.appends.history) more)
 
-pub owns_opened : (limits : Option Limits) (old new : BookState) (asked : Request) (o : Opened) → limits ≡ Some old.limits → CountsOwn (opened_seat o).counted (opened_seat o).receipts → OpensIn old new asked (Ok o) → OwnsUnder limits new.history (opened_seat o)
+pub owns_opened : (limits : Option Limits) (old new : BookState) (asked : Request) (o : Opened) → limits ≡ Some old.limits →
+    CountsOwn (opened_seat o).counted (opened_seat o).receipts → OpensIn old new asked (Ok o) → OwnsUnder limits new.history (opened_seat o)
 owns_opened limits old new request.Join (opened.Seated s) is counts h = owns_first limits old new _ act.Join s h.0 is refl counts h.1.1
 owns_opened limits old new request.Join (opened.Refused s) is counts h = owns_first limits old new _ act.Join s h.0 is refl counts h.1.1
 owns_opened limits old new (request.Attach process) (opened.Seated s) is counts h = owns_first limits old new process act.Attach s h.0 is refl counts h.1.1
@@ -172,19 +192,24 @@ owns_opened limits old new (request.Attach process) (opened.Refused s) is counts
 owns_opened limits old new (request.Call call) o is counts h = absurd h
 
 -- nothing was recorded
-owns_still : (limits : Option Limits) (old new : BookState) (s t : SeatState) → new ≡ old → t ≡ s → OwnsUnder limits old.history s → OwnsUnder limits new.history t
-owns_still limits old new s t same kept own = subst (λ (b : BookState). OwnsUnder limits b.history t) (sym same) (subst (OwnsUnder limits old.history) (sym kept) own)
+owns_still : (limits : Option Limits) (old new : BookState) (s t : SeatState) → new ≡ old → t ≡ s → OwnsUnder limits old.history s →
+    OwnsUnder limits new.history t
+owns_still limits old new s t same kept own = subst (λ (b : BookState). OwnsUnder limits b.history t) (sym same)
+    (subst (OwnsUnder limits old.history) (sym kept) own)
 
-pub owns_called : (limits : Option Limits) (old new : BookState) (s t : SeatState) (asked : Call) (told : Result Receipted Refusal) → limits ≡ Some old.limits → OwnsUnder limits old.history s → CallsIn old new s t asked told → OwnsUnder limits new.history t
+pub owns_called : (limits : Option Limits) (old new : BookState) (s t : SeatState) (asked : Call) (told : Result Receipted Refusal) → limits ≡ Some old.limits →
+    OwnsUnder limits old.history s → CallsIn old new s t asked told → OwnsUnder limits new.history t
 owns_called limits old new s t asked (Ok r) is own h = owns_recorded limits old new s t (act.Call asked) r is own h
 owns_called limits old new s t asked (Err refusal) is own h = owns_still limits old new s t h.0 h.1 own
 
-pub owns_ended : (limits : Option Limits) (old new : BookState) (s t : SeatState) (reason : Why) → limits ≡ Some old.limits → OwnsUnder limits old.history s → ExitsIn old new s t reason → OwnsUnder limits new.history t
+pub owns_ended : (limits : Option Limits) (old new : BookState) (s t : SeatState) (reason : Why) → limits ≡ Some old.limits → OwnsUnder limits old.history s →
+    ExitsIn old new s t reason → OwnsUnder limits new.history t
 owns_ended limits old new s t why.Foreign is own h = owns_still limits old new s t h.0 h.1 own
 owns_ended limits old new s t why.HungUp is own h = owns_recorded limits old new s t act.Exit h.0 is own h.1
 owns_ended limits old new s t why.NoMemory is own h = owns_recorded limits old new s t act.Exit h.0 is own h.1
 owns_ended limits old new s t why.RunFull is own h = owns_recorded limits old new s t act.Exit h.0 is own h.1
 owns_ended limits old new s t why.Lost is own h = owns_recorded limits old new s t act.Exit h.0 is own h.1
 
-pub owns_resumed : (limits : Option Limits) (old new : BookState) (s t : SeatState) (r : Receipted) → limits ≡ Some old.limits → OwnsUnder limits old.history s → TriesIn old new s (tried.Resumed t r) → OwnsUnder limits new.history t
+pub owns_resumed : (limits : Option Limits) (old new : BookState) (s t : SeatState) (r : Receipted) → limits ≡ Some old.limits →
+    OwnsUnder limits old.history s → TriesIn old new s (tried.Resumed t r) → OwnsUnder limits new.history t
 owns_resumed limits old new s t r is own h = owns_recorded limits old new s t act.Resume r is own h.1

@@ -75,10 +75,18 @@ pub record IsLooked (ready : ℕ → Bool) (s : Stirred) (f : ℕ → Option ℕ
   pub done : All (λ q. ready q ≡ false) (take at now)
   pub left : filter (λ q. not (ready q)) now ≡ filter (λ q. not (ready q)) old
 
-pub starts_looked : (ready : ℕ → Bool) (s : Stirred) (f : ℕ → Option ℕ) (asleep : List ℕ) (pipes : List (Option ℕ)) → StartsLook ready s f asleep pipes → IsLooked ready s f asleep asleep pipes 0
-starts_looked ready s f asleep pipes start = record { pipes = start.pipes; spared = start.spared; within = omega arith; done = All-nil (λ q. ready q ≡ false); left = refl }
+pub starts_looked : (ready : ℕ → Bool) (s : Stirred) (f : ℕ → Option ℕ) (asleep : List ℕ) (pipes : List (Option ℕ)) → StartsLook ready s f asleep pipes →
+    IsLooked ready s f asleep asleep pipes 0
+starts_looked ready s f asleep pipes start = record {
+  pipes = start.pipes;
+  spared = start.spared;
+  within = omega arith;
+  done = All-nil (λ q. ready q ≡ false);
+  left = refl;
+}
 
-pub paired : (ready : ℕ → Bool) (s : Stirred) (f : ℕ → Option ℕ) (old now : List ℕ) (pipes : List (Option ℕ)) (at : ℕ) → IsLooked ready s f old now pipes at → length pipes ≡ length now
+pub paired : (ready : ℕ → Bool) (s : Stirred) (f : ℕ → Option ℕ) (old now : List ℕ) (pipes : List (Option ℕ)) (at : ℕ) → IsLooked ready s f old now pipes at →
+    length pipes ≡ length now
 paired ready s f old now pipes at h = ap length h.pipes ∙ length_mapped f now
 
 both : (a b : Bool) → (a && b) ≡ true → b ≡ true
@@ -91,7 +99,8 @@ not_woken true b h spared = h
 not_woken false b h spared = spared refl
 
 -- one look more
-pub looked : (ready : ℕ → Bool) (s : Stirred) (f : ℕ → Option ℕ) (old now : List ℕ) (pipes : List (Option ℕ)) (at : ℕ) → IsLooked ready s f old now pipes at → at < length now →
+pub looked : (ready : ℕ → Bool) (s : Stirred) (f : ℕ → Option ℕ) (old now : List ℕ) (pipes : List (Option ℕ)) (at : ℕ) → IsLooked ready s f old now pipes at →
+    at < length now →
     (left : List ℕ) (left_pipes : List (Option ℕ)) (next : ℕ) →
     left ≡ without_if (stirs s (get_or now at 0) (get_or pipes at None) && ready (get_or now at 0)) now at →
     left_pipes ≡ without_if (stirs s (get_or now at 0) (get_or pipes at None) && ready (get_or now at 0)) pipes at →
@@ -129,15 +138,18 @@ looked ready s f old now pipes at h below left left_pipes next is_left is_pipes 
         }
 
 -- how many are left to look at
-pub nearer : {T : Type 0} (woken : Bool) (now left : List T) (at next : ℕ) → at < length now → left ≡ without_if woken now at → next ≡ next_if woken at → (length left + at) + 1 ≤ length now + next
+pub nearer : {T : Type 0} (woken : Bool) (now left : List T) (at next : ℕ) → at < length now → left ≡ without_if woken now at → next ≡ next_if woken at →
+    (length left + at) + 1 ≤ length now + next
 nearer true now left at next below is_left is_next = omega (arith, ap length is_left, is_next, length-remove now at below)
 nearer false now left at next below is_left is_next = omega (arith, ap length is_left, is_next)
 
 -- after the last look
-pub all_looked : (ready : ℕ → Bool) (s : Stirred) (f : ℕ → Option ℕ) (old now : List ℕ) (pipes : List (Option ℕ)) (at : ℕ) → IsLooked ready s f old now pipes at → length now ≤ at → All (λ q. ready q ≡ false) now
+pub all_looked : (ready : ℕ → Bool) (s : Stirred) (f : ℕ → Option ℕ) (old now : List ℕ) (pipes : List (Option ℕ)) (at : ℕ) →
+    IsLooked ready s f old now pipes at → length now ≤ at → All (λ q. ready q ≡ false) now
 all_looked ready s f old now pipes at h full = subst (All (λ q. ready q ≡ false)) (take_all now at full) h.done
 
-pub all_left : (ready : ℕ → Bool) (s : Stirred) (f : ℕ → Option ℕ) (old now : List ℕ) (pipes : List (Option ℕ)) (at : ℕ) → IsLooked ready s f old now pipes at → length now ≤ at → now ≡ filter (λ q. not (ready q)) old
+pub all_left : (ready : ℕ → Bool) (s : Stirred) (f : ℕ → Option ℕ) (old now : List ℕ) (pipes : List (Option ℕ)) (at : ℕ) → IsLooked ready s f old now pipes at →
+    length now ≤ at → now ≡ filter (λ q. not (ready q)) old
 all_left ready s f old now pipes at h full = sym (filter_all ready now (all_looked ready s f old now pipes at h full)) ∙ h.left
 
 pub both_no : (a b : Bool) → a ≡ false → b ≡ false → (a || b) ≡ false
@@ -159,7 +171,8 @@ pub spared_starts : (was b : BookState) (s : Stirred) (sleepers : Sleepers) → 
     StartsLook (λ q. wakes_in b q) s (pipe_in was) sleepers.asleep.items sleepers.pipes.items
 spared_starts was b s sleepers sound spares = record {
   pipes = sound.pipes;
-  spared = All-weaker (λ q. wakes_in was q ≡ false) (λ q. stirs s q (pipe_in was q) ≡ false → wakes_in b q ≡ false) (λ q h apart. sleeps_on was b s spares q h apart) sleepers.asleep.items sound.none_wakes;
+  spared = All-weaker (λ q. wakes_in was q ≡ false) (λ q. stirs s q (pipe_in was q) ≡ false → wakes_in b q ≡ false)
+      (λ q h apart. sleeps_on was b s spares q h apart) sleepers.asleep.items sound.none_wakes;
 }
 
 nobody_on : (x : Option ℕ) → is_on_its stirred.Nobody x ≡ false
@@ -169,7 +182,8 @@ nobody_on (Some pipe) = refl
 -- an event that stirs nobody leaves them so
 pub nobody_ready : (was b : BookState) (sleepers : Sleepers) → SleepersSound was sleepers → SparesIn was b stirred.Nobody → SleepersSound b sleepers
 nobody_ready was b sleepers sound spares = record {
-  none_wakes = All-weaker (λ q. wakes_in was q ≡ false) (λ q. wakes_in b q ≡ false) (λ q h. sleeps_on was b stirred.Nobody spares q h (nobody_on (pipe_in was q))) sleepers.asleep.items sound.none_wakes;
+  none_wakes = All-weaker (λ q. wakes_in was q ≡ false) (λ q. wakes_in b q ≡ false)
+      (λ q h. sleeps_on was b stirred.Nobody spares q h (nobody_on (pipe_in was q))) sleepers.asleep.items sound.none_wakes;
   pipes = sound.pipes ∙ map_agrees (pipe_in was) (pipe_in b) (λ q. sym (spares.pipe q refl)) sleepers.asleep.items;
 }
 
@@ -186,7 +200,8 @@ map_pushed f [] x = refl
 map_pushed f (y ∷ xs) x = ap (λ l. f y ∷ l) (map_pushed f xs x)
 
 -- with one more, which is live, whose call is not ready and whose pipe is known
-pub asleep_sound : (b : BookState) (was now : Sleepers) (process : ℕ) (pipe : Option ℕ) → SleepersSound b was → wakes_in b process ≡ false → pipe ≡ pipe_in b process →
+pub asleep_sound : (b : BookState) (was now : Sleepers) (process : ℕ) (pipe : Option ℕ) → SleepersSound b was → wakes_in b process ≡ false →
+    pipe ≡ pipe_in b process →
     now.asleep.items ≡ was.asleep.items ++ process ∷ [] → now.pipes.items ≡ was.pipes.items ++ pipe ∷ [] → SleepersSound b now
 asleep_sound b was now process pipe sound still its more more_pipes =
     let xs = was.asleep.items in
@@ -197,7 +212,8 @@ asleep_sound b was now process pipe sound still its more more_pipes =
     }
 
 -- one pipe more is asked for
-pub renewed : {S T : Type 0} (f g : S → T) (xs : List S) (i : ℕ) (d : S) → i < length xs → set (map g (take i xs) ++ map f (drop i xs)) i (g (get_or xs i d)) ≡ map g (take (suc i) xs) ++ map f (drop (suc i) xs)
+pub renewed : {S T : Type 0} (f g : S → T) (xs : List S) (i : ℕ) (d : S) → i < length xs → set (map g (take i xs) ++ map f (drop i xs)) i (g (get_or xs i d))
+    ≡ map g (take (suc i) xs) ++ map f (drop (suc i) xs)
 renewed f g [] i d below = absurd (omega arith)
 renewed f g (x ∷ xs) zero d below = refl
 renewed f g (x ∷ xs) (suc i) d below = ap (λ l. g x ∷ l) (renewed f g xs i d (omega arith))
@@ -209,8 +225,10 @@ all_renewed f g (x ∷ xs) zero full = absurd (omega arith)
 all_renewed f g (x ∷ xs) (suc i) full = ap (λ l. g x ∷ l) (all_renewed f g xs i (omega arith))
 
 -- where the asked is what stood at this place, and the pipe too
-pub renewed_at : (b : BookState) (s : Stirred) (f : ℕ → Option ℕ) (xs : List ℕ) (pipes : List (Option ℕ)) (i : ℕ) (q : ℕ) (p : Option ℕ) → i < length xs → q ≡ get_or xs i q → p ≡ get_or pipes i p →
-    pipes ≡ map (λ q. pipe_then b s q (f q)) (take i xs) ++ map f (drop i xs) → set pipes i (pipe_then b s q p) ≡ map (λ q. pipe_then b s q (f q)) (take (i + 1) xs) ++ map f (drop (i + 1) xs)
+pub renewed_at : (b : BookState) (s : Stirred) (f : ℕ → Option ℕ) (xs : List ℕ) (pipes : List (Option ℕ)) (i : ℕ) (q : ℕ) (p : Option ℕ) → i < length xs →
+    q ≡ get_or xs i q → p ≡ get_or pipes i p →
+    pipes ≡ map (λ q. pipe_then b s q (f q)) (take i xs) ++ map f (drop i xs) → set pipes i (pipe_then b s q p) ≡ map (λ q. pipe_then b s q (f q))
+    (take (i + 1) xs) ++ map f (drop (i + 1) xs)
 renewed_at b s f xs pipes i q p below is_q is_p h =
     let g : ℕ → Option ℕ = λ q. pipe_then b s q (f q) in
     let its : p ≡ f q = is_p ∙ (ap (λ l. get_or l i p) h ∙ (there f g xs i q p below ∙ ap f (sym is_q))) in
@@ -218,7 +236,8 @@ renewed_at b s f xs pipes i q p below is_q is_p h =
     let is : pipe_then b s q p ≡ g (get_or xs i q) = ap (pipe_then b s q) its ∙ ap g is_q in
     rw (more, h, is) (renewed f g xs i q below)
   where
-    there : (f g : ℕ → Option ℕ) (xs : List ℕ) (i : ℕ) (d : ℕ) (e : Option ℕ) → i < length xs → get_or (map g (take i xs) ++ map f (drop i xs)) i e ≡ f (get_or xs i d)
+    there : (f g : ℕ → Option ℕ) (xs : List ℕ) (i : ℕ) (d : ℕ) (e : Option ℕ) → i < length xs → get_or (map g (take i xs) ++ map f (drop i xs)) i e ≡ f
+        (get_or xs i d)
     there f g [] i d e below = absurd (omega arith)
     there f g (x ∷ xs) zero d e below = refl
     there f g (x ∷ xs) (suc i) d e below = there f g xs i d e (omega arith)

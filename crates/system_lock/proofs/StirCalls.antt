@@ -49,12 +49,14 @@ page_slight : (s : Stirred) (page : Page) → Slight s page.effect → Slight s 
 page_slight s page slight = unless_slight s (first_fault page.faults) page.effect slight
 
 -- a call on a descriptor, whatever it leads to
-open_slight : (s : Stirred) (x : Option OpenDescriptor) (page : OpenDescriptor → Page) → ((o : OpenDescriptor) → Slight s (page o).effect) → Slight s (on_open x page)
+open_slight : (s : Stirred) (x : Option OpenDescriptor) (page : OpenDescriptor → Page) → ((o : OpenDescriptor) → Slight s (page o).effect) →
+    Slight s (on_open x page)
 open_slight s None page all = nothing_slight s
 open_slight s (Some o) page all = page_slight s (page o) (all o)
 
 -- one that stirs whom its pipe says
-end_slight : (process : ℕ) (x : Option OpenDescriptor) (page : OpenDescriptor → Page) → ((o : OpenDescriptor) → Slight (stirred_at process (pipe_at o.description.target)) (page o).effect) →
+end_slight : (process : ℕ) (x : Option OpenDescriptor) (page : OpenDescriptor → Page) →
+    ((o : OpenDescriptor) → Slight (stirred_at process (pipe_at o.description.target)) (page o).effect) →
     Slight (stirred_at process (pipe_of x)) (on_open x page)
 end_slight process None page all = nothing_slight stirred.Nobody
 end_slight process (Some o) page all = page_slight (stirred_at process (pipe_at o.description.target)) (page o) (all o)
@@ -92,7 +94,8 @@ read_try_slight s w pipe count on =
     if_try s (not (eqb (held_in w pipe) 0)) (Ends (Data (take count (held_bytes w pipe))) (on_files.Take pipe count)) (cond (has_writer w pipe) waits none) on
     (if_try s (has_writer w pipe) waits none tt tt)
 
-write_try_slight : (s : Stirred) (bounds : Bounds) (w : World) (pipe : ℕ) (from : DataSource) (len moved : ℕ) → is_on s pipe ≡ true → TrySlight s (write_try bounds w pipe from len moved)
+write_try_slight : (s : Stirred) (bounds : Bounds) (w : World) (pipe : ℕ) (from : DataSource) (len moved : ℕ) → is_on s pipe ≡ true →
+    TrySlight s (write_try bounds w pipe from len moved)
 write_try_slight s bounds w pipe from len moved on =
     let rest = len - moved in
     let room = room_in bounds w pipe in
@@ -104,7 +107,8 @@ write_try_slight s bounds w pipe from len moved on =
     (if_try s (leb rest room) fits later on (if_try s (leb len PIPE_BUF) waits large tt on))
 
 -- the first try of a call of the event's own process
-first_slight : (s : Stirred) (process : ℕ) (c : Call) (o : OpenDescriptor) (t : Try) → is_by s process ≡ true → TrySlight s t → Slight s (first_try process c o t)
+first_slight : (s : Stirred) (process : ℕ) (c : Call) (o : OpenDescriptor) (t : Try) → is_by s process ≡ true → TrySlight s t →
+    Slight s (first_try process c o t)
 first_slight s process c o (Ends reply edit) by slight = record { files = slight; process = tt; table = tt }
 first_slight s process c o (Waits moved edit) by slight =
     let done = does (Number moved) edit on_table.Nothing in
@@ -120,23 +124,29 @@ next_slight s process (Waits moved edit) by slight = record { files = slight; pr
 same : (n : ℕ) → eqb n n ≡ true
 same n = eq-eqb n n refl
 
-read_slight : (w : World) (process : ℕ) (c : Call) (count : ℕ) (o : OpenDescriptor) (x : Option ℕ) → Slight (stirred_at process x) (read_from w process c count o x)
+read_slight : (w : World) (process : ℕ) (c : Call) (count : ℕ) (o : OpenDescriptor) (x : Option ℕ) →
+    Slight (stirred_at process x) (read_from w process c count o x)
 read_slight w process c count o None =
     let got = bytes_at (bytes_of w (file_at o)) o.description.offset count in
-    if_slight stirred.Nobody (eqb (length got) 0) (tells (Data got)) (does (Data got) on_files.Nothing (on_table.Describe o.number (on_description.Offset (o.description.offset + length got))))
+    if_slight stirred.Nobody (eqb (length got) 0) (tells (Data got))
+    (does (Data got) on_files.Nothing (on_table.Describe o.number (on_description.Offset (o.description.offset + length got))))
     (nothing_slight stirred.Nobody) (record { files = tt; process = tt; table = tt })
 read_slight w process c count o (Some pipe) =
     let s = stirred.Around process pipe in
     if_slight s (eqb count 0) (tells (Data [])) (first_try process c o (read_try w pipe count)) (nothing_slight s)
     (first_slight s process c o (read_try w pipe count) (same process) (read_try_slight s w pipe count (same pipe)))
 
-puts_slight : (s : Stirred) (bytes : List ℕ) (f start n : ℕ) (moved : TableEdit) → IsSlight s (record no_change { table = moved }) → Slight s (puts bytes f start n moved)
+puts_slight : (s : Stirred) (bytes : List ℕ) (f start n : ℕ) (moved : TableEdit) → IsSlight s (record no_change { table = moved }) →
+    Slight s (puts bytes f start n moved)
 puts_slight s bytes f start n moved slight =
-    if_slight s (eqb (length bytes) 0) (tells (Number 0)) (does (Number n) (on_files.Bytes f start n) moved) (nothing_slight s) (record { files = tt; process = tt; table = slight.table })
+    if_slight s (eqb (length bytes) 0) (tells (Number 0)) (does (Number n) (on_files.Bytes f start n) moved) (nothing_slight s)
+    (record { files = tt; process = tt; table = slight.table })
 
-write_slight : (bounds : Bounds) (w : World) (process : ℕ) (c : Call) (start : ℕ) (bytes : List ℕ) (o : OpenDescriptor) (x : Option ℕ) → Slight (stirred_at process x) (write_to bounds w process c start bytes o x)
+write_slight : (bounds : Bounds) (w : World) (process : ℕ) (c : Call) (start : ℕ) (bytes : List ℕ) (o : OpenDescriptor) (x : Option ℕ) →
+    Slight (stirred_at process x) (write_to bounds w process c start bytes o x)
 write_slight bounds w process c start bytes o None =
-    puts_slight stirred.Nobody bytes (file_at o) start (fitting bounds start bytes) (on_table.Describe o.number (on_description.Offset (start + fitting bounds start bytes))) (record { files = tt; process = tt; table = tt })
+    puts_slight stirred.Nobody bytes (file_at o) start (fitting bounds start bytes)
+    (on_table.Describe o.number (on_description.Offset (start + fitting bounds start bytes))) (record { files = tt; process = tt; table = tt })
 write_slight bounds w process c start bytes o (Some pipe) =
     let s = stirred.Around process pipe in
     let t = write_try bounds w pipe source.Act (length bytes) 0 in
@@ -179,7 +189,8 @@ abbrev pub MaybeSlight : Stirred → Option Decided → Type 0
 MaybeSlight s None = Unit {0}
 MaybeSlight s (Some d) = Slight s d
 
-maybe_next : (s : Stirred) (process : ℕ) (b : Bool) (t : Try) → is_by s process ≡ true → TrySlight s t → MaybeSlight s (option_map (next_try process) (cond b (Some t) None))
+maybe_next : (s : Stirred) (process : ℕ) (b : Bool) (t : Try) → is_by s process ≡ true → TrySlight s t →
+    MaybeSlight s (option_map (next_try process) (cond b (Some t) None))
 maybe_next s process true t by slight = next_slight s process t by slight
 maybe_next s process false t by slight = tt
 
@@ -191,7 +202,8 @@ again_slight bounds w process o parked pipe (call.Read fd count) =
 again_slight bounds w process o parked pipe (call.Write fd bytes) =
     let s = stirred.Around process pipe in
     let t = write_try bounds w pipe (source.Parked process) (length bytes) parked.moved in
-    maybe_next s process (write_ready bounds w pipe (length bytes)) t (same process) (write_try_slight s bounds w pipe (source.Parked process) (length bytes) parked.moved (same pipe))
+    maybe_next s process (write_ready bounds w pipe (length bytes)) t (same process)
+    (write_try_slight s bounds w pipe (source.Parked process) (length bytes) parked.moved (same pipe))
 again_slight bounds w process o parked pipe (call.Open name flags) =
     maybe_next (stirred.Around process pipe) process (open_ready w o pipe parked.openings) (Ends (Number o.fd) on_files.Nothing) (same process) tt
 again_slight bounds w process o parked pipe other = tt
@@ -211,11 +223,13 @@ parked_slight : (bounds : Bounds) (w : World) (process : ℕ) (x : Option Parked
 parked_slight bounds w process None = tt
 parked_slight bounds w process (Some parked) = opened_slight bounds w process parked (opened w process (pos parked.fd))
 
-here_slight : (s : Stirred) (process : ℕ) (b : Bool) (x : Option Try) → MaybeSlight s (option_map (next_try process) x) → MaybeSlight s (option_map (next_try process) (cond b x None))
+here_slight : (s : Stirred) (process : ℕ) (b : Bool) (x : Option Try) → MaybeSlight s (option_map (next_try process) x) →
+    MaybeSlight s (option_map (next_try process) (cond b x None))
 here_slight s process true x slight = slight
 here_slight s process false x slight = tt
 
 pub resume_slight : (bounds : Bounds) (w : World) (process : ℕ) → MaybeSlight (stirred_at process (pipe_waited w process)) (resume bounds w process)
 resume_slight bounds w process =
     let at = slot w.processes process in
-    here_slight (stirred_at process (pipe_waited w process)) process (is_here at) (try_parked bounds w process (parked_of at)) (parked_slight bounds w process (parked_of at))
+    here_slight (stirred_at process (pipe_waited w process)) process (is_here at) (try_parked bounds w process (parked_of at))
+    (parked_slight bounds w process (parked_of at))

@@ -174,11 +174,13 @@ pub record IsSlight (s : Stirred) (c : Change) : Type 0 where
   pub table : TableSlight c.table
 
 -- the descriptors of a process whose call alone is edited
-table_kept : (n : ℕ) (edit : Process → Process) → ((x : Process) → (edit x).table ≡ x.table) → (x : Option Process) → refs_of n (option_map edit x) ≡ refs_of n x
+table_kept : (n : ℕ) (edit : Process → Process) → ((x : Process) → (edit x).table ≡ x.table) → (x : Option Process) →
+    refs_of n (option_map edit x) ≡ refs_of n x
 table_kept n edit keeps None = refl
 table_kept n edit keeps (Some x) = ap (λ table. refs_of n (Some (record x { table = table }))) (keeps x)
 
-process_alike : (s : Stirred) (w : World) (p : ℕ) (edit : Process → Process) → ((x : Process) → (edit x).table ≡ x.table) → is_by s p ≡ true → Alike s w (record w { processes = edited p edit w.processes })
+process_alike : (s : Stirred) (w : World) (p : ℕ) (edit : Process → Process) → ((x : Process) → (edit x).table ≡ x.table) → is_by s p ≡ true →
+    Alike s w (record w { processes = edited p edit w.processes })
 process_alike s w p edit keeps by = record {
   processes = λ q other. set_other w.processes p q (option_map edit (slot w.processes p)) (apart_by (is_by s) p q by other);
   refs = λ n. sum_set (refs_of n) w.processes p (option_map edit (slot w.processes p)) (table_kept n edit keeps (slot w.processes p));
@@ -194,11 +196,13 @@ process_alike s w p edit keeps by = record {
 }
 
 -- what a test sees that sees no more of a description than what it is open on, and for what
-not_seen : {K : Type 0} (t : Option Description → K) (f : Description → Description) → ((d : Description) → t (Some (f d)) ≡ t (Some d)) → (x : Option Description) → t (option_map f x) ≡ t x
+not_seen : {K : Type 0} (t : Option Description → K) (f : Description → Description) → ((d : Description) → t (Some (f d)) ≡ t (Some d)) →
+    (x : Option Description) → t (option_map f x) ≡ t x
 not_seen t f sees None = refl
 not_seen t f sees (Some d) = sees d
 
-description_alike : (s : Stirred) (w : World) (n : ℕ) (f : Description → Description) → StaysOpen f → Alike s w (record w { descriptions = edited n f w.descriptions })
+description_alike : (s : Stirred) (w : World) (n : ℕ) (f : Description → Description) → StaysOpen f →
+    Alike s w (record w { descriptions = edited n f w.descriptions })
 description_alike s w n f stays =
     let ds = w.descriptions in
     let at = slot ds n in
@@ -245,7 +249,8 @@ change_alike s w bytes c slight fits =
     (alike_twice s u v (changed w bytes c) (processes_alike s u c.process slight.process) (table_alike s v c.table slight.table))
 
 -- a FIFO forgets no pipe where the open ends are the same
-same_open : (ds es : List (Option Description)) → ((p : ℕ) → readers es p ≡ readers ds p) → ((p : ℕ) → writers es p ≡ writers ds p) → (pipe : Option ℕ) → open_pipe es pipe ≡ open_pipe ds pipe
+same_open : (ds es : List (Option Description)) → ((p : ℕ) → readers es p ≡ readers ds p) → ((p : ℕ) → writers es p ≡ writers ds p) → (pipe : Option ℕ) →
+    open_pipe es pipe ≡ open_pipe ds pipe
 same_open ds es same_readers same_writers None = refl
 same_open ds es same_readers same_writers (Some p) = rw (same_readers p, same_writers p) refl
 
@@ -257,13 +262,15 @@ same_fifo ds es same_readers same_writers None (Some (file.Fifo b)) same settled
 same_fifo ds es same_readers same_writers (Some (file.Regular bytes)) (Some (file.Fifo b)) same settled = cc
 same_fifo ds es same_readers same_writers (Some (file.Fifo a)) (Some (file.Fifo b)) same settled =
     let is : b ≡ a = cc in
-    let kept : without_gone_pipe ds (Some (file.Fifo b)) ≡ Some (file.Fifo b) = subst (λ (x : Fifo). without_gone_pipe ds (Some (file.Fifo x)) ≡ Some (file.Fifo x)) (sym is) settled in
+    let kept : without_gone_pipe ds (Some (file.Fifo b)) ≡ Some (file.Fifo b) =
+    subst (λ (x : Fifo). without_gone_pipe ds (Some (file.Fifo x)) ≡ Some (file.Fifo x)) (sym is) settled in
     ap (λ pipe. Some (file.Fifo (record b { pipe = pipe }))) (same_open ds es same_readers same_writers b.pipe) ∙ kept
 
 alike_settled : (s : Stirred) (w v : World) → Alike s w v → IsSettled w → IsSettled v
 alike_settled s w v a settled = record {
   descriptions = λ n there.
-      let was : is_some (slot w.descriptions n) ≡ true = sym (some_mapped open_as (slot w.descriptions n)) ∙ (sym (ap is_some (a.descriptions n)) ∙ (some_mapped open_as (slot v.descriptions n) ∙ there)) in
+      let was : is_some (slot w.descriptions n) ≡ true = sym (some_mapped open_as (slot w.descriptions n)) ∙
+      (sym (ap is_some (a.descriptions n)) ∙ (some_mapped open_as (slot v.descriptions n) ∙ there)) in
       omega (arith, settled.descriptions n was, a.refs n);
   pipes = λ n there. omega (arith, settled.pipes n (sym (a.pipes_there n) ∙ there), a.readers n, a.writers n);
   fifos = λ n. same_fifo w.descriptions v.descriptions a.readers a.writers (slot w.files n) (slot v.files n) (a.fifos n) (settled.fifos n);
@@ -298,24 +305,29 @@ same_fifo_of s w v a (target.Fifo f p) = a.fifos f
 same_read : (s : Stirred) (w v : World) → Alike s w v → (pipe : ℕ) → is_on s pipe ≡ false → read_ready v pipe ≡ read_ready w pipe
 same_read s w v a pipe apart = rw (a.pipes pipe apart, a.writers pipe) refl
 
-same_write : (s : Stirred) (bounds : Bounds) (w v : World) → Alike s w v → (pipe len : ℕ) → is_on s pipe ≡ false → write_ready bounds v pipe len ≡ write_ready bounds w pipe len
+same_write : (s : Stirred) (bounds : Bounds) (w v : World) → Alike s w v → (pipe len : ℕ) → is_on s pipe ≡ false →
+    write_ready bounds v pipe len ≡ write_ready bounds w pipe len
 same_write s bounds w v a pipe len apart = rw (a.pipes pipe apart, a.readers pipe) refl
 
-same_open_ready : (s : Stirred) (w v : World) → Alike s w v → (o p : OpenDescriptor) → SameEnd o p → (pipe openings : ℕ) → open_ready v p pipe openings ≡ open_ready w o pipe openings
+same_open_ready : (s : Stirred) (w v : World) → Alike s w v → (o p : OpenDescriptor) → SameEnd o p → (pipe openings : ℕ) →
+    open_ready v p pipe openings ≡ open_ready w o pipe openings
 same_open_ready s w v a o p same pipe openings =
     rw (same.target, same.mode, same_opposite s w v a pipe o.description.mode, same_fifo_of s w v a o.description.target) refl
 
-same_again : (s : Stirred) (bounds : Bounds) (w v : World) → Alike s w v → (q : ℕ) (o p : OpenDescriptor) → SameEnd o p → (parked : Parked) (pipe : ℕ) → is_on s pipe ≡ false → (c : Call) →
+same_again : (s : Stirred) (bounds : Bounds) (w v : World) → Alike s w v → (q : ℕ) (o p : OpenDescriptor) → SameEnd o p → (parked : Parked) (pipe : ℕ) →
+    is_on s pipe ≡ false → (c : Call) →
     is_some (try_again bounds v q p parked pipe c) ≡ is_some (try_again bounds w q o parked pipe c)
 same_again s bounds w v a q o p same parked pipe apart (call.Read fd count) = both_if _ _ _ _ (same_read s w v a pipe apart)
 same_again s bounds w v a q o p same parked pipe apart (call.Write fd bytes) =
     let len = length bytes in
     let from = source.Parked q in
-    both_if (write_ready bounds v pipe len) (write_ready bounds w pipe len) (write_try bounds v pipe from len parked.moved) (write_try bounds w pipe from len parked.moved) (same_write s bounds w v a pipe len apart)
+    both_if (write_ready bounds v pipe len) (write_ready bounds w pipe len) (write_try bounds v pipe from len parked.moved)
+    (write_try bounds w pipe from len parked.moved) (same_write s bounds w v a pipe len apart)
 same_again s bounds w v a q o p same parked pipe apart (call.Open name flags) = both_if _ _ _ _ (same_open_ready s w v a o p same pipe parked.openings)
 same_again s bounds w v a q o p same parked pipe apart other = refl
 
-same_on : (s : Stirred) (bounds : Bounds) (w v : World) → Alike s w v → (q : ℕ) (o p : OpenDescriptor) → SameEnd o p → (parked : Parked) (x : Option ℕ) → is_on_its s x ≡ false →
+same_on : (s : Stirred) (bounds : Bounds) (w v : World) → Alike s w v → (q : ℕ) (o p : OpenDescriptor) → SameEnd o p → (parked : Parked) (x : Option ℕ) →
+    is_on_its s x ≡ false →
     is_some (try_on bounds v q parked p x) ≡ is_some (try_on bounds w q parked o x)
 same_on s bounds w v a q o p same parked None apart = refl
 same_on s bounds w v a q o p same parked (Some pipe) apart = same_again s bounds w v a q o p same parked pipe apart parked.call
@@ -341,7 +353,8 @@ same_number s w v a fd (Some n) = same_description fd n (slot w.descriptions n) 
 same_opened : (s : Stirred) (w v : World) → Alike s w v → (q : ℕ) → is_by s q ≡ false → (fd : ℕ) → SameOpen (opened w q (pos fd)) (opened v q (pos fd))
 same_opened s w v a q other fd =
     let at = slot (table_of (slot w.processes q)) fd in
-    subst (λ (x : Option Process). SameOpen (opened w q (pos fd)) (opened_number v fd (slot (table_of x) fd))) (sym (a.processes q other)) (same_number s w v a fd at)
+    subst (λ (x : Option Process). SameOpen (opened w q (pos fd)) (opened_number v fd (slot (table_of x) fd))) (sym (a.processes q other))
+    (same_number s w v a fd at)
 
 -- so it waits on the same pipe
 same_pipe : (x y : Option OpenDescriptor) → SameOpen x y → pipe_of y ≡ pipe_of x
@@ -349,7 +362,8 @@ same_pipe x y (none is_x is_y) = rw (is_x, is_y) refl
 same_pipe x y (some o p is_x is_y same) = rw (is_x, is_y, same.target) refl
 
 -- and is as ready
-same_try : (s : Stirred) (bounds : Bounds) (w v : World) → Alike s w v → (q : ℕ) (parked : Parked) (x y : Option OpenDescriptor) → SameOpen x y → is_on_its s (pipe_of x) ≡ false →
+same_try : (s : Stirred) (bounds : Bounds) (w v : World) → Alike s w v → (q : ℕ) (parked : Parked) (x y : Option OpenDescriptor) → SameOpen x y →
+    is_on_its s (pipe_of x) ≡ false →
     is_some (try_opened bounds v q parked y) ≡ is_some (try_opened bounds w q parked x)
 same_try s bounds w v a q parked x y (none is_x is_y) apart = rw (is_x, is_y) refl
 same_try s bounds w v a q parked x y (some o p is_x is_y same) apart =
@@ -362,7 +376,8 @@ pipe_kept : (s : Stirred) (w v : World) → Alike s w v → (q : ℕ) → is_by 
 pipe_kept s w v a q other None = refl
 pipe_kept s w v a q other (Some parked) = same_pipe (opened w q (pos parked.fd)) (opened v q (pos parked.fd)) (same_opened s w v a q other parked.fd)
 
-ready_kept : (s : Stirred) (bounds : Bounds) (w v : World) → Alike s w v → (q : ℕ) → is_by s q ≡ false → (x : Option Parked) → is_on_its s (pipe_for w q x) ≡ false →
+ready_kept : (s : Stirred) (bounds : Bounds) (w v : World) → Alike s w v → (q : ℕ) → is_by s q ≡ false → (x : Option Parked) →
+    is_on_its s (pipe_for w q x) ≡ false →
     is_some (try_parked bounds v q x) ≡ is_some (try_parked bounds w q x)
 ready_kept s bounds w v a q other None apart = refl
 ready_kept s bounds w v a q other (Some parked) apart =
@@ -381,14 +396,16 @@ alike_spares s bounds w v a = record {
   ready = λ q apart.
       let far = neither (is_by s q) (is_on_its s (pipe_waited w q)) apart in
       let was = slot w.processes q in
-      ap (λ x. is_some (cond (is_here x) (try_parked bounds v q (parked_of x)) None)) (a.processes q far.0) ∙ if_same (is_here was) _ _ (ready_kept s bounds w v a q far.0 (parked_of was) far.1);
+      ap (λ x. is_some (cond (is_here x) (try_parked bounds v q (parked_of x)) None)) (a.processes q far.0) ∙
+      if_same (is_here was) _ _ (ready_kept s bounds w v a q far.0 (parked_of was) far.1);
   pipe = λ q other.
       ap (λ x. pipe_for v q (parked_of x)) (a.processes q other) ∙ pipe_kept s w v a q other (parked_of (slot w.processes q));
   live = λ q other there. ap is_some (a.processes q other) ∙ there;
 }
 
 -- a slight change, swept, spares all but its own process and what waits on its own pipe
-pub slight_spares : SweptIsSettled → SettledStays → (s : Stirred) (bounds : Bounds) (w : World) (bytes : List ℕ) (c : Change) → sweep w ≡ w → IsSlight s c → Fits w bytes c → Spares bounds w (sweep (changed w bytes c)) s
+pub slight_spares : SweptIsSettled → SettledStays → (s : Stirred) (bounds : Bounds) (w : World) (bytes : List ℕ) (c : Change) → sweep w ≡ w → IsSlight s c →
+    Fits w bytes c → Spares bounds w (sweep (changed w bytes c)) s
 slight_spares settles stays s bounds w bytes c swept slight fits =
     let v = changed w bytes c in
     let a = change_alike s w bytes c slight fits in

@@ -22,7 +22,8 @@ use Rattle.system_lock.proofs.SleeperLaws.{both_no, not_false, asleep_sound, fil
 -- ---- lists
 
 -- who is not among some is not among those that a filter keeps
-kept_none : (test keeps : ℕ → Bool) (x : ℕ) (xs : List ℕ) (b : Bool) → keeps x ≡ b → list_any test (x ∷ xs) ≡ false → list_any test (filter keeps xs) ≡ false → list_any test (filter keeps (x ∷ xs)) ≡ false
+kept_none : (test keeps : ℕ → Bool) (x : ℕ) (xs : List ℕ) (b : Bool) → keeps x ≡ b → list_any test (x ∷ xs) ≡ false → list_any test (filter keeps xs) ≡ false →
+    list_any test (filter keeps (x ∷ xs)) ≡ false
 kept_none test keeps x xs true is e h = rw is (both_no (test x) (list_any test (filter keeps xs)) (neither (test x) (list_any test xs) e).0 h)
 kept_none test keeps x xs false is e h = rw is h
 
@@ -42,7 +43,8 @@ not_true false e = refl
 
 -- what a filter keeps passes its test
 kept_not : (test : ℕ → Bool) (xs : List ℕ) → All (λ p. test p ≡ false) (filter (λ p. not (test p)) xs)
-kept_not test xs = All-weaker (λ p. not (test p) ≡ true) (λ p. test p ≡ false) (λ p e. not_true (test p) e) (filter (λ p. not (test p)) xs) (filter_passes (λ p. not (test p)) xs)
+kept_not test xs = All-weaker (λ p. not (test p) ≡ true) (λ p. test p ≡ false) (λ p e. not_true (test p) e) (filter (λ p. not (test p)) xs)
+    (filter_passes (λ p. not (test p)) xs)
 
 -- where all pass, all stay
 all_kept : (test : ℕ → Bool) (xs : List ℕ) → All (λ p. test p ≡ true) xs → filter test xs ≡ xs
@@ -52,7 +54,9 @@ all_kept test (x ∷ xs) all = rw (All-head (λ p. test p ≡ true) x xs all, al
 -- the place of a process that is there once
 removed_at : (process : ℕ) (xs : List ℕ) (i : ℕ) → AreDistinct xs → i < length xs → (get_or xs i 0 == process) ≡ true → remove xs i ≡ without xs process
 removed_at process [] i distinct below is = absurd (omega arith)
-removed_at process (x ∷ xs) zero distinct below is = rw is (sym (filter_all (λ other. other == process) xs (λ k d l. apart_too x (get_or xs k d) process is (distinct 0 (suc k) d (omega arith) (omega (arith, l))))))
+removed_at process (x ∷ xs) zero distinct below is =
+    rw is (sym (filter_all (λ other. other == process) xs
+    (λ k d l. apart_too x (get_or xs k d) process is (distinct 0 (suc k) d (omega arith) (omega (arith, l))))))
   where
     apart_too : (a b c : ℕ) → (a == c) ≡ true → (a == b) ≡ false → (b == c) ≡ false
     apart_too a b c e f = grind (arith, nat_tests)
@@ -64,7 +68,8 @@ removed_at process (x ∷ xs) (suc i) distinct below is =
     apart_before a b c e f = grind (arith, nat_tests)
 
 -- a process that has a place has no other
-pub one_removed : (process : ℕ) (xs : List ℕ) (i : ℕ) → AreDistinct xs → position (λ other. other == process) xs ≡ Some i → (i < length xs) × (remove xs i ≡ without xs process)
+pub one_removed : (process : ℕ) (xs : List ℕ) (i : ℕ) → AreDistinct xs → position (λ other. other == process) xs ≡ Some i →
+    (i < length xs) × (remove xs i ≡ without xs process)
 one_removed process xs i distinct e =
     let place = position-Some (λ other. other == process) xs i 0 e in
     (place.0, removed_at process xs i distinct place.0 place.1)
@@ -92,12 +97,14 @@ still_distinct keeps old new e h = subst AreDistinct (sym e) (AllPairs-filter (�
 pub still_live : (b : BookState) (old new : List ℕ) → new ≡ still_lost b old → AreLive b new
 still_live b old new e = subst (AreLive b) (sym e) (filter_passes (λ p. is_live_in b p) old)
 
-pub still_unmarked : (wakes keeps : ℕ → Bool) (asleep woken lost kept : List ℕ) → AreUnmarked lost asleep → woken ≡ filter (λ p. not (wakes p)) asleep → kept ≡ filter keeps lost → AreUnmarked kept woken
+pub still_unmarked : (wakes keeps : ℕ → Bool) (asleep woken lost kept : List ℕ) → AreUnmarked lost asleep → woken ≡ filter (λ p. not (wakes p)) asleep →
+    kept ≡ filter keeps lost → AreUnmarked kept woken
 still_unmarked wakes keeps asleep woken lost kept h e f =
     let on = filter (λ p. not (wakes p)) asleep in
     let left : AreUnmarked lost on = All-filter (λ p. not (wakes p)) (λ p. is_among lost p ≡ false) asleep h in
     subst (λ (l : List ℕ). AreUnmarked kept l) (sym e) (subst (λ (l : List ℕ). AreUnmarked l on) (sym f)
-    (All-weaker (λ p. is_among lost p ≡ false) (λ p. is_among (filter keeps lost) p ≡ false) (λ p none. not_kept (λ other. other == p) keeps lost none) on left))
+    (All-weaker (λ p. is_among lost p ≡ false) (λ p. is_among (filter keeps lost) p ≡ false) (λ p none. not_kept (λ other. other == p) keeps lost none) on
+    left))
 
 -- where an event stirs nobody, all stay as they were
 pub nobody_goes : (was b : BookState) (watch : Watch) → WatchSound was watch → SparesIn was b stirred.Nobody → WatchSound b watch
@@ -125,20 +132,24 @@ live_with b process xs h there = All-push (λ p. is_live_in b p ≡ true) xs pro
 
 -- those that sleep are live
 pub sleepers_live : (b : BookState) (xs : List ℕ) → SleepsSound b xs → AreLive b xs
-sleepers_live b xs h = All-weaker (λ p. wakes_in b p ≡ false) (λ p. is_live_in b p ≡ true) (λ p e. not_false (is_live_in b p) (neither (is_ready_in b p) (not (is_live_in b p)) e).1) xs h
+sleepers_live b xs h = All-weaker (λ p. wakes_in b p ≡ false) (λ p. is_live_in b p ≡ true)
+    (λ p e. not_false (is_live_in b p) (neither (is_ready_in b p) (not (is_live_in b p)) e).1) xs h
 
 -- there is room for one more
-pub has_room : (b : BookState) (process : ℕ) (xs : List ℕ) → LiveAreFew → AreDistinct xs → AreLive b xs → is_live_in b process ≡ true → is_among xs process ≡ false → length xs < 64
+pub has_room : (b : BookState) (process : ℕ) (xs : List ℕ) → LiveAreFew → AreDistinct xs → AreLive b xs → is_live_in b process ≡ true →
+    is_among xs process ≡ false → length xs < 64
 has_room b process xs few distinct live there none =
     let most = few b (xs ++ process ∷ []) (distinct_with process xs distinct none) (live_with b process xs live there) in
     omega (arith, most, length-append xs (process ∷ []))
 
 -- one more sleeps
-pub one_asleep : (b : BookState) (was now : Watch) (process : ℕ) (pipe : Option ℕ) → WatchSound b was → is_live_in b process ≡ true → is_ready_in b process ≡ false → is_among was.lost.processes.items process ≡ false →
+pub one_asleep : (b : BookState) (was now : Watch) (process : ℕ) (pipe : Option ℕ) → WatchSound b was → is_live_in b process ≡ true →
+    is_ready_in b process ≡ false → is_among was.lost.processes.items process ≡ false →
     is_among was.sleepers.asleep.items process ≡ false → pipe ≡ pipe_in b process → now.sleepers.asleep.items ≡ was.sleepers.asleep.items ++ process ∷ [] →
     now.sleepers.pipes.items ≡ was.sleepers.pipes.items ++ pipe ∷ [] → now.lost.processes.items ≡ was.lost.processes.items → WatchSound b now
 one_asleep b was now process pipe sound there unready unmarked none its asleep pipes lost = record {
-  sleepers = asleep_sound b was.sleepers now.sleepers process pipe sound.sleepers (both_no (is_ready_in b process) (not (is_live_in b process)) unready (ap not there)) its asleep pipes;
+  sleepers = asleep_sound b was.sleepers now.sleepers process pipe sound.sleepers (both_no (is_ready_in b process) (not (is_live_in b process)) unready
+      (ap not there)) its asleep pipes;
   asleep = subst AreDistinct (sym asleep) (distinct_with process was.sleepers.asleep.items sound.asleep none);
   lost = subst AreDistinct (sym lost) sound.lost;
   live = subst (AreLive b) (sym lost) sound.live;
@@ -151,23 +162,29 @@ flipped a b e = grind (arith, nat_tests)
 
 -- one more is lost, and who does not sleep is not that one
 among_with : (lost : List ℕ) (process p : ℕ) → is_among lost p ≡ false → (p == process) ≡ false → is_among (lost ++ process ∷ []) p ≡ false
-among_with lost process p e f = list_any-append (λ other. other == p) lost (process ∷ []) ∙ both_no (is_among lost p) (list_any (λ other. other == p) (process ∷ [])) e (both_no (process == p) false (flipped p process f) refl)
+among_with lost process p e f = list_any-append (λ other. other == p) lost (process ∷ []) ∙
+    both_no (is_among lost p) (list_any (λ other. other == p) (process ∷ [])) e (both_no (process == p) false (flipped p process f) refl)
 
 marked_apart : (process : ℕ) (lost asleep : List ℕ) → AreUnmarked lost asleep → AreUnmarked (lost ++ process ∷ []) (without asleep process)
 marked_apart process lost asleep h i d l =
     let on = without asleep process in
-    among_with lost process (get_or on i d) (All-filter (λ p. not (p == process)) (λ p. is_among lost p ≡ false) asleep h i d l) (kept_not (λ p. p == process) asleep i d l)
+    among_with lost process (get_or on i d) (All-filter (λ p. not (p == process)) (λ p. is_among lost p ≡ false) asleep h i d l)
+    (kept_not (λ p. p == process) asleep i d l)
 
-pub one_lost : (b : BookState) (was now : Watch) (process : ℕ) → WatchSound b was → is_live_in b process ≡ true → is_among was.lost.processes.items process ≡ false →
+pub one_lost : (b : BookState) (was now : Watch) (process : ℕ) → WatchSound b was → is_live_in b process ≡ true → is_among was.lost.processes.items process
+    ≡ false →
     now.lost.processes.items ≡ was.lost.processes.items ++ process ∷ [] → now.sleepers.asleep.items ≡ without was.sleepers.asleep.items process →
-    (was.sleepers.pipes.items ≡ map (pipe_in b) was.sleepers.asleep.items → now.sleepers.pipes.items ≡ map (pipe_in b) now.sleepers.asleep.items) → WatchSound b now
+    (was.sleepers.pipes.items ≡ map (pipe_in b) was.sleepers.asleep.items → now.sleepers.pipes.items ≡ map (pipe_in b) now.sleepers.asleep.items) →
+    WatchSound b now
 one_lost b was now process sound there none lost asleep pipes = record {
   sleepers = record {
-    none_wakes = subst (SleepsSound b) (sym asleep) (All-filter (λ p. not (p == process)) (λ p. wakes_in b p ≡ false) was.sleepers.asleep.items sound.sleepers.none_wakes);
+    none_wakes = subst (SleepsSound b) (sym asleep)
+        (All-filter (λ p. not (p == process)) (λ p. wakes_in b p ≡ false) was.sleepers.asleep.items sound.sleepers.none_wakes);
     pipes = pipes sound.sleepers.pipes;
   };
   asleep = still_distinct (λ p. not (p == process)) was.sleepers.asleep.items now.sleepers.asleep.items asleep sound.asleep;
   lost = subst AreDistinct (sym lost) (distinct_with process was.lost.processes.items sound.lost none);
   live = subst (AreLive b) (sym lost) (live_with b process was.lost.processes.items sound.live there);
-  unmarked = subst (λ (l : List ℕ). AreUnmarked l now.sleepers.asleep.items) (sym lost) (subst (AreUnmarked (was.lost.processes.items ++ process ∷ [])) (sym asleep) (marked_apart process was.lost.processes.items was.sleepers.asleep.items sound.unmarked));
+  unmarked = subst (λ (l : List ℕ). AreUnmarked l now.sleepers.asleep.items) (sym lost) (subst (AreUnmarked (was.lost.processes.items ++ process ∷ []))
+      (sym asleep) (marked_apart process was.lost.processes.items was.sleepers.asleep.items sound.unmarked));
 }

@@ -116,7 +116,8 @@ shown_part line part word free place text =
     ap plain_line shown ∙ again ∙ sym is
 
 -- nothing is spelled otherwise where there is no #
-one_hashed : (begins is_hash : Bool) (c : ℕ) (cs rest : List ℕ) → is_hash ≡ false → rest ≡ cs → (if begins && is_hash then codes "%23" else c ∷ []) ++ rest ≡ c ∷ cs
+one_hashed : (begins is_hash : Bool) (c : ℕ) (cs rest : List ℕ) → is_hash ≡ false → rest ≡ cs → (if begins && is_hash then codes "%23" else c ∷ []) ++ rest
+    ≡ c ∷ cs
 one_hashed true true c cs rest free same = cc
 one_hashed true false c cs rest free same = ap (λ (xs : List ℕ). c ∷ xs) same
 one_hashed false is_hash c cs rest free same = ap (λ (xs : List ℕ). c ∷ xs) same

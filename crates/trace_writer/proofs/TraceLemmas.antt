@@ -23,7 +23,8 @@ use Rattle.trace_writer.specs.declared.traced.TraceFault.TheVariants as faults
 
 frames_push : (rs : List Record) (r : Record) → frames_of (rs ++ r ∷ []) ≡ frames_of rs ++ frame (record_bytes r)
 frames_push [] r = append-nil (frame (record_bytes r))
-frames_push (x ∷ xs) r = ap (λ (l : List ℕ). frame (record_bytes x) ++ l) (frames_push xs r) ∙ sym (append_assoc (frame (record_bytes x)) (frames_of xs) (frame (record_bytes r)))
+frames_push (x ∷ xs) r = ap (λ (l : List ℕ). frame (record_bytes x) ++ l) (frames_push xs r) ∙
+    sym (append_assoc (frame (record_bytes x)) (frames_of xs) (frame (record_bytes r)))
 
 text_push : (told : ToldLimits) (rs : List Record) (r : Record) → text told (rs ++ r ∷ []) ≡ text told rs ++ frame (record_bytes r)
 text_push told rs r = ap (λ (l : List ℕ). header_2 told ++ l) (frames_push rs r) ∙ sym (append_assoc (header_2 told) (frames_of rs) (frame (record_bytes r)))
@@ -36,9 +37,11 @@ counts_none before after e = (omega arith, omega arith)
 
 -- what a making of a record's frame tells: what was told before, or that memory ran out, or that there is none
 abbrev Made : Option TraceFault → Option TraceFault → Record → Type 0
-Made fault fault' r = (fault' ≡ fault) ⊎ ((fault ≡ None) × (((fault' ≡ Some faults.NoMemory) × HasFrame r) ⊎ ((fault' ≡ Some faults.Unspellable) × BeginsUnspelled (r ∷ []))))
+Made fault fault' r = (fault' ≡ fault) ⊎ ((fault ≡ None) ×
+    (((fault' ≡ Some faults.NoMemory) × HasFrame r) ⊎ ((fault' ≡ Some faults.Unspellable) × BeginsUnspelled (r ∷ []))))
 
-made_tells : (fault fault' : Option TraceFault) (before after : ℕ) (r : Record) → Made fault fault' r → CountsFailures fault before after → CountsFailures fault' before after
+made_tells : (fault fault' : Option TraceFault) (before after : ℕ) (r : Record) → Made fault fault' r → CountsFailures fault before after →
+    CountsFailures fault' before after
 made_tells fault fault' before after r (inl e) t = subst (λ f. CountsFailures f before after) (sym e) t
 made_tells fault fault' before after r (inr (none, inl e)) t =
     subst (λ f. CountsFailures f before after) (sym e.0) (counts_none before after (subst (λ f. CountsFailures f before after) none t))
@@ -80,14 +83,16 @@ spelled_none told fault never = record {
 }
 
 -- a record with a frame came
-spelled_more : (told : ToldLimits) (front : List ℕ) (rs : List Record) (r : Record) → IsSpelled told front None rs → HasFrame r → IsSpelled told front None (rs ++ r ∷ [])
+spelled_more : (told : ToldLimits) (front : List ℕ) (rs : List Record) (r : Record) → IsSpelled told front None rs → HasFrame r →
+    IsSpelled told front None (rs ++ r ∷ [])
 spelled_more told front rs r s k = record {
   framed = s.framed ++ r ∷ [];
   later = [];
   left = s.left ++ frame (record_bytes r);
   is = ap (λ (l : List Record). l ++ r ∷ []) (all_framed told front rs s) ∙ sym (append-nil (s.framed ++ r ∷ []));
   have = have_more s.framed r s.have k;
-  fronts = sym (append_assoc front s.left (frame (record_bytes r))) ∙ ap (λ (l : List ℕ). l ++ frame (record_bytes r)) s.fronts ∙ sym (text_push told s.framed r);
+  fronts = sym (append_assoc front s.left (frame (record_bytes r))) ∙ ap (λ (l : List ℕ). l ++ frame (record_bytes r)) s.fronts ∙
+      sym (text_push told s.framed r);
   all = λ _. refl;
   unsynced = λ _. refl;
   unspelled = λ is. absurd (cc);
@@ -116,12 +121,14 @@ spelled_stop told front fault rs r s why = record {
     unsynced (inl e) is = let wrong : Some faults.NoMemory ≡ Some faults.Sync = sym e.0 ∙ is in cc
     unsynced (inr e) is = let wrong : Some faults.Unspellable ≡ Some faults.Sync = sym e.0 ∙ is in cc
 
-    unspelled : ((fault ≡ Some faults.NoMemory) × HasFrame r) ⊎ ((fault ≡ Some faults.Unspellable) × BeginsUnspelled (r ∷ [])) → fault ≡ Some faults.Unspellable → BeginsUnspelled (r ∷ [])
+    unspelled : ((fault ≡ Some faults.NoMemory) × HasFrame r) ⊎ ((fault ≡ Some faults.Unspellable) × BeginsUnspelled (r ∷ [])) →
+        fault ≡ Some faults.Unspellable → BeginsUnspelled (r ∷ [])
     unspelled (inl e) is = absurd (let wrong : Some faults.NoMemory ≡ Some faults.Unspellable = sym e.0 ∙ is in cc)
     unspelled (inr e) is = e.1
 
 -- after a fault a record came
-spelled_later : (told : ToldLimits) (front : List ℕ) (fault : Option TraceFault) (rs : List Record) (r : Record) → IsSpelled told front fault rs → (fault ≡ None → ⊥) → (fault ≡ Some faults.Sync → ⊥)
+spelled_later : (told : ToldLimits) (front : List ℕ) (fault : Option TraceFault) (rs : List Record) (r : Record) → IsSpelled told front fault rs →
+    (fault ≡ None → ⊥) → (fault ≡ Some faults.Sync → ⊥)
     → IsSpelled told front fault (rs ++ r ∷ [])
 spelled_later told front fault rs r s some never = record {
   framed = s.framed;
@@ -136,7 +143,8 @@ spelled_later told front fault rs r s some never = record {
 }
 
 -- a record came
-spelled_kept : (told : ToldLimits) (front : List ℕ) (unsent unsent' : List ℕ) (fault fault' : Option TraceFault) (rs : List Record) (r : Record) → IsSpelled told front fault rs → (fault ≡ Some faults.Sync → ⊥)
+spelled_kept : (told : ToldLimits) (front : List ℕ) (unsent unsent' : List ℕ) (fault fault' : Option TraceFault) (rs : List Record) (r : Record) →
+    IsSpelled told front fault rs → (fault ≡ Some faults.Sync → ⊥)
     → MakesFrame unsent unsent' fault fault' r → IsSpelled told front fault' (rs ++ r ∷ [])
 spelled_kept told front unsent unsent' fault None rs r s never m =
     let made = m.made refl in
@@ -150,7 +158,8 @@ spelled_kept told front unsent unsent' fault (Some why) rs r s never m = by m.to
     by (inr e) = spelled_stop told front (Some why) rs r (subst (λ f. IsSpelled told front f rs) e.0 s) e.1
 
 -- more was written
-spelled_front : (told : ToldLimits) (front front' left' : List ℕ) (fault' : Option TraceFault) (rs : List Record) → IsSpelled told front None rs → front' ++ left' ≡ text told rs → (fault' ≡ Some faults.Unspellable → ⊥)
+spelled_front : (told : ToldLimits) (front front' left' : List ℕ) (fault' : Option TraceFault) (rs : List Record) → IsSpelled told front None rs →
+    front' ++ left' ≡ text told rs → (fault' ≡ Some faults.Unspellable → ⊥)
     → IsSpelled told front' fault' rs
 spelled_front told front front' left' fault' rs s e never = record {
   framed = s.framed;
@@ -168,7 +177,8 @@ spelled_front told front front' left' fault' rs s e never = record {
 
 -- nothing was written, and what is not written yet is the header, unless memory ran out
 pub writes_first : (told : ToldLimits) (base : Option (List ℕ)) (before : ℕ) (unsent : List ℕ) (fault : Option TraceFault) (sound : Bool)
-    → (fault ≡ None) × (unsent ≡ header_2 told) ⊎ (fault ≡ Some faults.NoMemory) → before + 1 < 2 ^ 64 → sound ≡ true → length (header_2 told) ≡ HEADER_2_LENGTH → Writes told base base before before unsent 0 [] fault false sound
+    → (fault ≡ None) × (unsent ≡ header_2 told) ⊎ (fault ≡ Some faults.NoMemory) → before + 1 < 2 ^ 64 → sound ≡ true →
+    length (header_2 told) ≡ HEADER_2_LENGTH → Writes told base base before before unsent 0 [] fault false sound
 writes_first told base before unsent fault sound begun few still headed = record {
   front = [];
   rest = header_2 told;
@@ -205,15 +215,18 @@ writes_first told base before unsent fault sound begun few still headed = record
 -- ---- a record more
 
 -- the text is not long
-text_long : (told : ToldLimits) (rs : List Record) (r : Record) → length (text told rs) ≤ HEADER_2_LENGTH + RECORD_FRAME_MAX * length rs → length (frame (record_bytes r)) ≤ RECORD_FRAME_MAX
+text_long : (told : ToldLimits) (rs : List Record) (r : Record) → length (text told rs) ≤ HEADER_2_LENGTH + RECORD_FRAME_MAX * length rs →
+    length (frame (record_bytes r)) ≤ RECORD_FRAME_MAX
     → length (text told (rs ++ r ∷ [])) ≤ HEADER_2_LENGTH + RECORD_FRAME_MAX * length (rs ++ r ∷ [])
 text_long told rs r was short =
-    let longer : length (text told (rs ++ r ∷ [])) ≡ length (text told rs) + length (frame (record_bytes r)) = ap length (text_push told rs r) ∙ length-append (text told rs) (frame (record_bytes r)) in
+    let longer : length (text told (rs ++ r ∷ [])) ≡ length (text told rs) + length (frame (record_bytes r)) = ap length (text_push told rs r) ∙
+    length-append (text told rs) (frame (record_bytes r)) in
     let more : length (rs ++ r ∷ []) ≡ length rs + 1 = length-append rs (r ∷ []) in
     omega (arith, longer, more, was, short)
 
 -- a record more was kept
-pub writes_kept : (told : ToldLimits) (base now : Option (List ℕ)) (before after : ℕ) (unsent unsent' : List ℕ) (written : ℕ) (rs : List Record) (fault fault' : Option TraceFault) (torn sound : Bool) (r : Record)
+pub writes_kept : (told : ToldLimits) (base now : Option (List ℕ)) (before after : ℕ) (unsent unsent' : List ℕ) (written : ℕ) (rs : List Record)
+    (fault fault' : Option TraceFault) (torn sound : Bool) (r : Record)
     → Writes told base now before after unsent written rs fault torn sound → torn ≡ false → length rs < RECORDS_MAX → MakesFrame unsent unsent' fault fault' r
     → Writes told base now before after unsent' written (rs ++ r ∷ []) fault' torn sound
 writes_kept told base now before after unsent unsent' written rs fault fault' torn sound r w whole few m = record {
@@ -236,7 +249,8 @@ writes_kept told base now before after unsent unsent' written rs fault fault' to
 -- ---- what was not written yet is written
 
 -- no more is written than the text has
-pub writes_few : (told : ToldLimits) (base now now' : Option (List ℕ)) (before after : ℕ) (unsent : List ℕ) (written : ℕ) (rs : List Record) (fault : Option TraceFault) (torn sound : Bool) (count : ℕ)
+pub writes_few : (told : ToldLimits) (base now now' : Option (List ℕ)) (before after : ℕ) (unsent : List ℕ) (written : ℕ) (rs : List Record)
+    (fault : Option TraceFault) (torn sound : Bool) (count : ℕ)
     → Writes told base now before after unsent written rs fault torn sound → fault ≡ None → WritesFront now now' unsent count → written + count < 2 ^ 64
 writes_few told base now now' before after unsent written rs fault torn sound count w none f =
     let all : length w.front + length w.rest ≡ length (text told rs) = sym (length-append w.front w.rest) ∙ ap length w.is in
@@ -248,8 +262,11 @@ writes_few told base now now' before after unsent written rs fault torn sound co
     omega arith
 
 -- a front of what was not written was
-fronted : (told : ToldLimits) (base now now' : Option (List ℕ)) (before after after' : ℕ) (unsent : List ℕ) (written : ℕ) (rs : List Record) (fault fault' : Option TraceFault) (torn sound sound' : Bool) (count : ℕ)
-    → Writes told base now before after unsent written rs fault torn sound → fault ≡ None → WritesFront now now' unsent count → (fault' ≡ None → [] ≡ drop count unsent) → (fault' ≡ Some faults.Sync → ⊥) → (fault' ≡ Some faults.Unspellable → ⊥) → CountsFailures fault' before after'
+fronted : (told : ToldLimits) (base now now' : Option (List ℕ)) (before after after' : ℕ) (unsent : List ℕ) (written : ℕ) (rs : List Record)
+    (fault fault' : Option TraceFault) (torn sound sound' : Bool) (count : ℕ)
+    → Writes told base now before after unsent written rs fault torn sound → fault ≡ None → WritesFront now now' unsent count →
+    (fault' ≡ None → [] ≡ drop count unsent) → (fault' ≡ Some faults.Sync → ⊥) → (fault' ≡ Some faults.Unspellable → ⊥) →
+    CountsFailures fault' before after'
     → (fault' ≡ None → sound' ≡ true) → Writes told base now' before after' [] (written + count) rs fault' torn sound'
 fronted told base now now' before after after' unsent written rs fault fault' torn sound sound' count w none f all never spelled tells still = record {
   front = w.front ++ take count unsent;
@@ -257,7 +274,8 @@ fronted told base now now' before after after' unsent written rs fault fault' to
   appends = Appends-trans base now now' w.front (take count unsent) w.appends f.appends;
   is = fronts;
   written_is =
-      let long : length (w.front ++ take count unsent) ≡ length w.front + count = length-append w.front (take count unsent) ∙ ap (λ (m : ℕ). length w.front + m) (length-take-le count unsent f.within) in
+      let long : length (w.front ++ take count unsent) ≡ length w.front + count = length-append w.front (take count unsent) ∙
+      ap (λ (m : ℕ). length w.front + m) (length-take-le count unsent f.within) in
       let was = w.written_is in
       omega (arith, long, was);
   unsent_is = all;
@@ -274,24 +292,30 @@ fronted told base now now' before after after' unsent written rs fault fault' to
 }
   where
     fronts : (w.front ++ take count unsent) ++ drop count unsent ≡ text told rs
-    fronts = append_assoc w.front (take count unsent) (drop count unsent) ∙ ap (λ (l : List ℕ). w.front ++ l) (take-append-drop count unsent ∙ w.unsent_is none) ∙ w.is
+    fronts = append_assoc w.front (take count unsent) (drop count unsent) ∙ ap (λ (l : List ℕ). w.front ++ l) (take-append-drop count unsent ∙
+        w.unsent_is none) ∙ w.is
 
 -- all that was not written was
-pub flushed : (told : ToldLimits) (base now now' : Option (List ℕ)) (before after after' : ℕ) (unsent : List ℕ) (written : ℕ) (rs : List Record) (fault : Option TraceFault) (torn sound sound' : Bool) (count : ℕ)
-    → Writes told base now before after unsent written rs fault torn sound → fault ≡ None → WritesFront now now' unsent count → count ≡ length unsent → after' ≡ after → sound' ≡ true
+pub flushed : (told : ToldLimits) (base now now' : Option (List ℕ)) (before after after' : ℕ) (unsent : List ℕ) (written : ℕ) (rs : List Record)
+    (fault : Option TraceFault) (torn sound sound' : Bool) (count : ℕ)
+    → Writes told base now before after unsent written rs fault torn sound → fault ≡ None → WritesFront now now' unsent count → count ≡ length unsent →
+    after' ≡ after → sound' ≡ true
     → Writes told base now' before after' [] (written + count) rs fault torn sound'
 flushed told base now now' before after after' unsent written rs fault torn sound sound' count w none f whole same still =
     fronted told base now now' before after after' unsent written rs fault fault torn sound sound' count w none f
-    (λ _. sym (ap (λ (n : ℕ). drop n unsent) whole ∙ drop-length unsent)) w.never_synced (λ is. absurd (let wrong : None ≡ Some faults.Unspellable = sym none ∙ is in cc))
+    (λ _. sym (ap (λ (n : ℕ). drop n unsent) whole ∙ drop-length unsent)) w.never_synced
+    (λ is. absurd (let wrong : None ≡ Some faults.Unspellable = sym none ∙ is in cc))
     (subst (λ (n : ℕ). CountsFailures fault before n) (sym same) w.tells) (λ _. still)
 
 -- the sink failed in the middle
-pub broken : (told : ToldLimits) (base now now' : Option (List ℕ)) (before after after' : ℕ) (unsent : List ℕ) (written : ℕ) (rs : List Record) (fault : Option TraceFault) (torn sound sound' : Bool) (count : ℕ)
+pub broken : (told : ToldLimits) (base now now' : Option (List ℕ)) (before after after' : ℕ) (unsent : List ℕ) (written : ℕ) (rs : List Record)
+    (fault : Option TraceFault) (torn sound sound' : Bool) (count : ℕ)
     → Writes told base now before after unsent written rs fault torn sound → fault ≡ None → WritesFront now now' unsent count → after' ≡ after + 1
     → Writes told base now' before after' [] (written + count) rs (Some faults.Write) torn sound'
 broken told base now now' before after after' unsent written rs fault torn sound sound' count w none f more =
     let was : after ≡ before = subst (λ f. CountsFailures f before after) none w.tells in
-    fronted told base now now' before after after' unsent written rs fault (Some faults.Write) torn sound sound' count w none f (λ e. absurd (cc)) (λ e. cc) (λ e. cc) (more ∙ ap (λ (n : ℕ). n + 1) was) (λ e. absurd (cc))
+    fronted told base now now' before after after' unsent written rs fault (Some faults.Write) torn sound sound' count w none f (λ e. absurd (cc)) (λ e. cc)
+    (λ e. cc) (more ∙ ap (λ (n : ℕ). n + 1) was) (λ e. absurd (cc))
 
 -- ---- what is whole
 
@@ -299,12 +323,14 @@ broken told base now now' before after after' unsent written rs fault torn sound
 whole_all : (rs : List Record) → whole_in rs (length (frames_of rs)) ≡ length rs
 whole_all [] = refl
 whole_all (r ∷ rs) =
-    let all : length (frame (record_bytes r) ++ frames_of rs) ≡ length (frame (record_bytes r)) + length (frames_of rs) = length-append (frame (record_bytes r)) (frames_of rs) in
+    let all : length (frame (record_bytes r) ++ frames_of rs) ≡ length (frame (record_bytes r)) + length (frames_of rs) =
+    length-append (frame (record_bytes r)) (frames_of rs) in
     let fits : nat_le (length (frame (record_bytes r))) (length (frame (record_bytes r) ++ frames_of rs)) ≡ true = grind (arith, nat_tests, all) in
     let left : length (frame (record_bytes r) ++ frames_of rs) - length (frame (record_bytes r)) ≡ length (frames_of rs) = omega (arith, all) in
     rw (fits, left, whole_all rs) (add-one (length rs))
 
-pub whole_when_all : (told : ToldLimits) (rs : List Record) (written : ℕ) → written ≡ length (text told rs) → whole_in rs (written - length (header_2 told)) ≡ length rs
+pub whole_when_all : (told : ToldLimits) (rs : List Record) (written : ℕ) → written ≡ length (text told rs) → whole_in rs (written - length (header_2 told))
+    ≡ length rs
 whole_when_all told rs written e =
     let long : length (text told rs) ≡ length (header_2 told) + length (frames_of rs) = length-append (header_2 told) (frames_of rs) in
     let left : written - length (header_2 told) ≡ length (frames_of rs) = omega (arith, e, long) in

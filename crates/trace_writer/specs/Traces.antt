@@ -44,7 +44,8 @@ pub record IsSpelled (told : ToldLimits) (front : List ℕ) (fault : Option Trac
 -- What became of a trace that tells these limits: so many bytes of the text of the records were added to what the sink held, its first ones, and so many records
 -- are whole in them. They are all, and were synced, where nothing went wrong; where only the sync failed, they are all. What went wrong
 -- in the sink it has counted, and what was written can be read (own)
-pub record IsTrace (told : ToldLimits) (base now : Option (List ℕ)) (before after : ℕ) (is_synced : Bool) (whole bytes : ℕ) (fault : Option TraceFault) (received : List Record) : Type 0 where
+pub record IsTrace (told : ToldLimits) (base now : Option (List ℕ)) (before after : ℕ) (is_synced : Bool) (whole bytes : ℕ) (fault : Option TraceFault)
+    (received : List Record) : Type 0 where
   pub front : List ℕ
   pub rest : List ℕ
   pub appends : Appends base now front

@@ -24,7 +24,8 @@ OneEnding = (bytes : List ℕ) (v : Verdict) (e f : Ending) → IsEnding bytes v
 -- the text of a legal run is legal, with all its records and no rest
 abbrev pub TextIsLegal : Type 0
 TextIsLegal =
-    (told : ToldLimits) (h : List Record) → is_told told ≡ true → IsLegalRun told.bounds told.records h → HaveFrames h → IsVerdict (text told h) (Legal (length h) 0)
+    (told : ToldLimits) (h : List Record) → is_told told ≡ true → IsLegalRun told.bounds told.records h → HaveFrames h →
+    IsVerdict (text told h) (Legal (length h) 0)
 
 -- a verdict that is legal, with as many records as are whole in a front of a history's text
 pub record TellsFront (h : List Record) (v : Verdict) : Type 0 where
@@ -57,7 +58,8 @@ LegalHaveFrames = (bounds : Bounds) (h : List Record) → legal bounds h → All
 -- frames are whole in the bytes after the header
 abbrev pub WrittenIsLegal : Type 0
 WrittenIsLegal =
-    (told : ToldLimits) (h : List Record) (bytes left : List ℕ) → is_told told ≡ true → IsLegalRun told.bounds told.records h → AllInRange h → text told h ≡ bytes ++ left
+    (told : ToldLimits) (h : List Record) (bytes left : List ℕ) → is_told told ≡ true → IsLegalRun told.bounds told.records h → AllInRange h →
+    text told h ≡ bytes ++ left
     → (rest : ℕ) × IsVerdict bytes (Legal (whole_in h (length bytes - length (header_2 told))) rest)
 
 -- a verdict that tells a fault

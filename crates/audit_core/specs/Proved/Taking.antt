@@ -37,7 +37,8 @@ BodyGoesOn told body b (Some (Malformed at)) = IsMalformedAt told b.headed body 
 -- a piece more of the bytes after a header
 pub record TakesBody (piece : List ℕ) (old new : BodyState) (found : Option Verdict) : Type 0 where
   pub headed : new.headed ≡ old.headed
-  pub goes : (told : ToldLimits) (body : List ℕ) → IsJudging told body old → old.headed + length (body ++ piece) < 2 ^ 64 → BodyGoesOn told (body ++ piece) new found
+  pub goes : (told : ToldLimits) (body : List ℕ) → IsJudging told body old → old.headed + length (body ++ piece) < 2 ^ 64 →
+      BodyGoesOn told (body ++ piece) new found
 
 -- the same where there is a body
 pub record TakesAfter (piece : List ℕ) (old new : Option BodyState) (found : Option Verdict) : Type 0 where

@@ -59,7 +59,8 @@ pub record ReadsIn {A : Type 0} (Spells : A → List ℕ → Type 0) (most : ℕ
 
 -- how far bytes were read whose values a taker is handed: up to where no further frame begins, or until it had enough
 abbrev pub ReadsTo : {A T : Type 0} → (A → List ℕ → Type 0) → ℕ → (T → T → A → Bool → Type 0) → List ℕ → List ℕ → T → T → Read → Type 0
-ReadsTo {A} Spells most takes bytes held old new (reads.Up used stop) = (values : List A) × ReadsIn Spells most bytes held values used stop × TakesAll takes old new values true
+ReadsTo {A} Spells most takes bytes held old new (reads.Up used stop) = (values : List A) × ReadsIn Spells most bytes held values used stop × TakesAll takes old
+    new values true
 ReadsTo Spells most takes bytes held old new reads.Enough = HasEnough Spells most takes bytes old new
 
 -- how far bytes were read, with a frame of so many bytes before them

@@ -30,13 +30,29 @@ abbrev pub request_frames : List (Row Request)
 request_frames =
     record { value = requests.Join; bytes = 0 ∷ 0 ∷ 0 ∷ 1 ∷ 1 ∷ [] } ∷
     record { value = requests.Attach 7; bytes = 0 ∷ 0 ∷ 0 ∷ 5 ∷ 2 ∷ 0 ∷ 0 ∷ 0 ∷ 7 ∷ [] } ∷
-    record { value = requests.Call (calls.Open (codes "a b") (record { 0 = bit_or (bit_or writing creat) nonblocking })); bytes = 0 ∷ 0 ∷ 0 ∷ 6 ∷ 16 ∷ 70 ∷ 3 ∷ 97 ∷ 32 ∷ 98 ∷ [] } ∷
+    record {
+      value = requests.Call (calls.Open (codes "a b") (record { 0 = bit_or (bit_or writing creat) nonblocking }));
+      bytes =
+          0 ∷ 0 ∷ 0 ∷ 6 ∷ 16 ∷ 70 ∷ 3 ∷ 97 ∷ 32 ∷ 98 ∷ [];
+    } ∷
     record { value = requests.Call (calls.Close (negsuc 0)); bytes = 0 ∷ 0 ∷ 0 ∷ 5 ∷ 17 ∷ 255 ∷ 255 ∷ 255 ∷ 255 ∷ [] } ∷
     record { value = requests.Call (calls.Read (pos 3) 5); bytes = 0 ∷ 0 ∷ 0 ∷ 9 ∷ 18 ∷ 0 ∷ 0 ∷ 0 ∷ 3 ∷ 0 ∷ 0 ∷ 0 ∷ 5 ∷ [] } ∷
     record { value = requests.Call (calls.Write (pos 1) (codes "hi")); bytes = 0 ∷ 0 ∷ 0 ∷ 11 ∷ 19 ∷ 0 ∷ 0 ∷ 0 ∷ 1 ∷ 0 ∷ 0 ∷ 0 ∷ 2 ∷ 104 ∷ 105 ∷ [] } ∷
-    record { value = requests.Call (calls.Pread (pos 3) (pos 4) 5); bytes = 0 ∷ 0 ∷ 0 ∷ 17 ∷ 20 ∷ 0 ∷ 0 ∷ 0 ∷ 3 ∷ 0 ∷ 0 ∷ 0 ∷ 0 ∷ 0 ∷ 0 ∷ 0 ∷ 4 ∷ 0 ∷ 0 ∷ 0 ∷ 5 ∷ [] } ∷
-    record { value = requests.Call (calls.Pwrite (pos 3) (pos 4) (codes "hi")); bytes = 0 ∷ 0 ∷ 0 ∷ 19 ∷ 21 ∷ 0 ∷ 0 ∷ 0 ∷ 3 ∷ 0 ∷ 0 ∷ 0 ∷ 0 ∷ 0 ∷ 0 ∷ 0 ∷ 4 ∷ 0 ∷ 0 ∷ 0 ∷ 2 ∷ 104 ∷ 105 ∷ [] } ∷
-    record { value = requests.Call (calls.Lseek (pos 3) (negsuc 1) whences.Cur); bytes = 0 ∷ 0 ∷ 0 ∷ 14 ∷ 22 ∷ 0 ∷ 0 ∷ 0 ∷ 3 ∷ 255 ∷ 255 ∷ 255 ∷ 255 ∷ 255 ∷ 255 ∷ 255 ∷ 254 ∷ 1 ∷ [] } ∷
+    record {
+      value = requests.Call (calls.Pread (pos 3) (pos 4) 5);
+      bytes =
+          0 ∷ 0 ∷ 0 ∷ 17 ∷ 20 ∷ 0 ∷ 0 ∷ 0 ∷ 3 ∷ 0 ∷ 0 ∷ 0 ∷ 0 ∷ 0 ∷ 0 ∷ 0 ∷ 4 ∷ 0 ∷ 0 ∷ 0 ∷ 5 ∷ [];
+    } ∷
+    record {
+      value = requests.Call (calls.Pwrite (pos 3) (pos 4) (codes "hi"));
+      bytes =
+          0 ∷ 0 ∷ 0 ∷ 19 ∷ 21 ∷ 0 ∷ 0 ∷ 0 ∷ 3 ∷ 0 ∷ 0 ∷ 0 ∷ 0 ∷ 0 ∷ 0 ∷ 0 ∷ 4 ∷ 0 ∷ 0 ∷ 0 ∷ 2 ∷ 104 ∷ 105 ∷ [];
+    } ∷
+    record {
+      value = requests.Call (calls.Lseek (pos 3) (negsuc 1) whences.Cur);
+      bytes =
+          0 ∷ 0 ∷ 0 ∷ 14 ∷ 22 ∷ 0 ∷ 0 ∷ 0 ∷ 3 ∷ 255 ∷ 255 ∷ 255 ∷ 255 ∷ 255 ∷ 255 ∷ 255 ∷ 254 ∷ 1 ∷ [];
+    } ∷
     record { value = requests.Call (calls.Ftruncate (pos 3) (pos 4)); bytes = 0 ∷ 0 ∷ 0 ∷ 13 ∷ 23 ∷ 0 ∷ 0 ∷ 0 ∷ 3 ∷ 0 ∷ 0 ∷ 0 ∷ 0 ∷ 0 ∷ 0 ∷ 0 ∷ 4 ∷ [] } ∷
     record { value = requests.Call (calls.Dup (pos 3)); bytes = 0 ∷ 0 ∷ 0 ∷ 5 ∷ 24 ∷ 0 ∷ 0 ∷ 0 ∷ 3 ∷ [] } ∷
     record { value = requests.Call (calls.Dup2 (pos 3) (pos 4)); bytes = 0 ∷ 0 ∷ 0 ∷ 9 ∷ 25 ∷ 0 ∷ 0 ∷ 0 ∷ 3 ∷ 0 ∷ 0 ∷ 0 ∷ 4 ∷ [] } ∷
@@ -53,29 +69,73 @@ request_frames =
 -- a row for each kind of answer
 abbrev pub answer_frames : List (Row Answer)
 answer_frames =
-    record { value = answers.Recorded 5 (outcomes.Reply (replies.Number 2)); bytes = 0 ∷ 0 ∷ 0 ∷ 18 ∷ 1 ∷ 0 ∷ 0 ∷ 0 ∷ 0 ∷ 0 ∷ 0 ∷ 0 ∷ 5 ∷ 2 ∷ 0 ∷ 0 ∷ 0 ∷ 0 ∷ 0 ∷ 0 ∷ 0 ∷ 2 ∷ [] } ∷
+    record {
+      value = answers.Recorded 5 (outcomes.Reply (replies.Number 2));
+      bytes =
+          0 ∷ 0 ∷ 0 ∷ 18 ∷ 1 ∷ 0 ∷ 0 ∷ 0 ∷ 0 ∷ 0 ∷ 0 ∷ 0 ∷ 5 ∷ 2 ∷ 0 ∷ 0 ∷ 0 ∷ 0 ∷ 0 ∷ 0 ∷ 0 ∷ 2 ∷ [];
+    } ∷
     record { value = answers.Recorded 0 (outcomes.Reply replies.Done); bytes = 0 ∷ 0 ∷ 0 ∷ 10 ∷ 1 ∷ 0 ∷ 0 ∷ 0 ∷ 0 ∷ 0 ∷ 0 ∷ 0 ∷ 0 ∷ 1 ∷ [] } ∷
-    record { value = answers.Recorded 258 (outcomes.Reply (replies.Data (codes "hi"))); bytes = 0 ∷ 0 ∷ 0 ∷ 16 ∷ 1 ∷ 0 ∷ 0 ∷ 0 ∷ 0 ∷ 0 ∷ 0 ∷ 1 ∷ 2 ∷ 3 ∷ 0 ∷ 0 ∷ 0 ∷ 2 ∷ 104 ∷ 105 ∷ [] } ∷
-    record { value = answers.Recorded 1 (outcomes.Reply (replies.Pair 3 4)); bytes = 0 ∷ 0 ∷ 0 ∷ 18 ∷ 1 ∷ 0 ∷ 0 ∷ 0 ∷ 0 ∷ 0 ∷ 0 ∷ 0 ∷ 1 ∷ 4 ∷ 0 ∷ 0 ∷ 0 ∷ 3 ∷ 0 ∷ 0 ∷ 0 ∷ 4 ∷ [] } ∷
-    record { value = answers.Recorded 2 (outcomes.Reply (replies.Stat (record { kind = kinds.Fifo; size = 3; links = 1 }))); bytes = 0 ∷ 0 ∷ 0 ∷ 23 ∷ 1 ∷ 0 ∷ 0 ∷ 0 ∷ 0 ∷ 0 ∷ 0 ∷ 0 ∷ 2 ∷ 5 ∷ 1 ∷ 0 ∷ 0 ∷ 0 ∷ 0 ∷ 0 ∷ 0 ∷ 0 ∷ 3 ∷ 0 ∷ 0 ∷ 0 ∷ 1 ∷ [] } ∷
-    record { value = answers.Recorded 3 (outcomes.Reply (replies.Error errors.EPIPE)); bytes = 0 ∷ 0 ∷ 0 ∷ 11 ∷ 1 ∷ 0 ∷ 0 ∷ 0 ∷ 0 ∷ 0 ∷ 0 ∷ 0 ∷ 3 ∷ 6 ∷ 14 ∷ [] } ∷
+    record {
+      value = answers.Recorded 258 (outcomes.Reply (replies.Data (codes "hi")));
+      bytes =
+          0 ∷ 0 ∷ 0 ∷ 16 ∷ 1 ∷ 0 ∷ 0 ∷ 0 ∷ 0 ∷ 0 ∷ 0 ∷ 1 ∷ 2 ∷ 3 ∷ 0 ∷ 0 ∷ 0 ∷ 2 ∷ 104 ∷ 105 ∷ [];
+    } ∷
+    record {
+      value = answers.Recorded 1 (outcomes.Reply (replies.Pair 3 4));
+      bytes =
+          0 ∷ 0 ∷ 0 ∷ 18 ∷ 1 ∷ 0 ∷ 0 ∷ 0 ∷ 0 ∷ 0 ∷ 0 ∷ 0 ∷ 1 ∷ 4 ∷ 0 ∷ 0 ∷ 0 ∷ 3 ∷ 0 ∷ 0 ∷ 0 ∷ 4 ∷ [];
+    } ∷
+    record {
+      value = answers.Recorded 2 (outcomes.Reply (replies.Stat (record { kind = kinds.Fifo; size = 3; links = 1 })));
+      bytes =
+          0 ∷ 0 ∷ 0 ∷ 23 ∷ 1 ∷ 0 ∷ 0 ∷ 0 ∷ 0 ∷ 0 ∷ 0 ∷ 0 ∷ 2 ∷ 5 ∷ 1 ∷ 0 ∷ 0 ∷ 0 ∷ 0 ∷ 0 ∷ 0 ∷ 0 ∷ 3 ∷ 0 ∷ 0 ∷ 0 ∷ 1 ∷ [];
+    } ∷
+    record {
+      value = answers.Recorded 3 (outcomes.Reply (replies.Error errors.EPIPE));
+      bytes =
+          0 ∷ 0 ∷ 0 ∷ 11 ∷ 1 ∷ 0 ∷ 0 ∷ 0 ∷ 0 ∷ 0 ∷ 0 ∷ 0 ∷ 3 ∷ 6 ∷ 14 ∷ [];
+    } ∷
     record { value = answers.Recorded 4 (outcomes.Parked 512); bytes = 0 ∷ 0 ∷ 0 ∷ 14 ∷ 1 ∷ 0 ∷ 0 ∷ 0 ∷ 0 ∷ 0 ∷ 0 ∷ 0 ∷ 4 ∷ 7 ∷ 0 ∷ 0 ∷ 2 ∷ 0 ∷ [] } ∷
     record { value = answers.Recorded 6 (outcomes.Part 513); bytes = 0 ∷ 0 ∷ 0 ∷ 14 ∷ 1 ∷ 0 ∷ 0 ∷ 0 ∷ 0 ∷ 0 ∷ 0 ∷ 0 ∷ 6 ∷ 8 ∷ 0 ∷ 0 ∷ 2 ∷ 1 ∷ [] } ∷
     record { value = answers.Refused refusals.NoMemory; bytes = 0 ∷ 0 ∷ 0 ∷ 2 ∷ 2 ∷ 17 ∷ [] } ∷
     record { value = answers.Refused refusals.RunFull; bytes = 0 ∷ 0 ∷ 0 ∷ 2 ∷ 2 ∷ 18 ∷ [] } ∷
     record { value = answers.Refused refusals.Waiting; bytes = 0 ∷ 0 ∷ 0 ∷ 2 ∷ 2 ∷ 19 ∷ [] } ∷
     record { value = answers.Refused refusals.NotHere; bytes = 0 ∷ 0 ∷ 0 ∷ 2 ∷ 2 ∷ 20 ∷ [] } ∷
-    record { value = answers.Refused (refusals.Foreign 3 2); bytes = 0 ∷ 0 ∷ 0 ∷ 18 ∷ 2 ∷ 21 ∷ 0 ∷ 0 ∷ 0 ∷ 0 ∷ 0 ∷ 0 ∷ 0 ∷ 3 ∷ 0 ∷ 0 ∷ 0 ∷ 0 ∷ 0 ∷ 0 ∷ 0 ∷ 2 ∷ [] } ∷ []
+    record {
+      value = answers.Refused (refusals.Foreign 3 2);
+      bytes =
+          0 ∷ 0 ∷ 0 ∷ 18 ∷ 2 ∷ 21 ∷ 0 ∷ 0 ∷ 0 ∷ 0 ∷ 0 ∷ 0 ∷ 0 ∷ 3 ∷ 0 ∷ 0 ∷ 0 ∷ 0 ∷ 0 ∷ 0 ∷ 0 ∷ 2 ∷ [];
+    } ∷ []
 
 -- the records of a process that joins, makes a pipe and exits; of a call that waits; and of the closing
 abbrev pub record_frames : List (Row Record)
 record_frames =
-    record { value = record { actor = 0; act = acts.Join; outcome = outcomes.Reply (replies.Number 0) }; bytes = 0 ∷ 0 ∷ 0 ∷ 14 ∷ 0 ∷ 0 ∷ 0 ∷ 0 ∷ 1 ∷ 2 ∷ 0 ∷ 0 ∷ 0 ∷ 0 ∷ 0 ∷ 0 ∷ 0 ∷ 0 ∷ [] } ∷
-    record { value = record { actor = 0; act = acts.Call calls.Pipe; outcome = outcomes.Reply (replies.Pair 0 1) }; bytes = 0 ∷ 0 ∷ 0 ∷ 14 ∷ 0 ∷ 0 ∷ 0 ∷ 0 ∷ 26 ∷ 4 ∷ 0 ∷ 0 ∷ 0 ∷ 0 ∷ 0 ∷ 0 ∷ 0 ∷ 1 ∷ [] } ∷
+    record {
+      value = record { actor = 0; act = acts.Join; outcome = outcomes.Reply (replies.Number 0) };
+      bytes =
+          0 ∷ 0 ∷ 0 ∷ 14 ∷ 0 ∷ 0 ∷ 0 ∷ 0 ∷ 1 ∷ 2 ∷ 0 ∷ 0 ∷ 0 ∷ 0 ∷ 0 ∷ 0 ∷ 0 ∷ 0 ∷ [];
+    } ∷
+    record {
+      value = record { actor = 0; act = acts.Call calls.Pipe; outcome = outcomes.Reply (replies.Pair 0 1) };
+      bytes =
+          0 ∷ 0 ∷ 0 ∷ 14 ∷ 0 ∷ 0 ∷ 0 ∷ 0 ∷ 26 ∷ 4 ∷ 0 ∷ 0 ∷ 0 ∷ 0 ∷ 0 ∷ 0 ∷ 0 ∷ 1 ∷ [];
+    } ∷
     record { value = record { actor = 0; act = acts.Exit; outcome = outcomes.Reply replies.Done }; bytes = 0 ∷ 0 ∷ 0 ∷ 6 ∷ 0 ∷ 0 ∷ 0 ∷ 0 ∷ 4 ∷ 1 ∷ [] } ∷
-    record { value = record { actor = 258; act = acts.Attach; outcome = outcomes.Reply (replies.Error errors.ESRCH) }; bytes = 0 ∷ 0 ∷ 0 ∷ 7 ∷ 0 ∷ 0 ∷ 1 ∷ 2 ∷ 2 ∷ 6 ∷ 16 ∷ [] } ∷
-    record { value = record { actor = 1; act = acts.Resume; outcome = outcomes.Part 513 }; bytes = 0 ∷ 0 ∷ 0 ∷ 10 ∷ 0 ∷ 0 ∷ 0 ∷ 1 ∷ 3 ∷ 8 ∷ 0 ∷ 0 ∷ 2 ∷ 1 ∷ [] } ∷
-    record { value = record { actor = 4294967295; act = acts.CloseRun; outcome = outcomes.Reply replies.Done }; bytes = 0 ∷ 0 ∷ 0 ∷ 6 ∷ 255 ∷ 255 ∷ 255 ∷ 255 ∷ 5 ∷ 1 ∷ [] } ∷ []
+    record {
+      value = record { actor = 258; act = acts.Attach; outcome = outcomes.Reply (replies.Error errors.ESRCH) };
+      bytes =
+          0 ∷ 0 ∷ 0 ∷ 7 ∷ 0 ∷ 0 ∷ 1 ∷ 2 ∷ 2 ∷ 6 ∷ 16 ∷ [];
+    } ∷
+    record {
+      value = record { actor = 1; act = acts.Resume; outcome = outcomes.Part 513 };
+      bytes =
+          0 ∷ 0 ∷ 0 ∷ 10 ∷ 0 ∷ 0 ∷ 0 ∷ 1 ∷ 3 ∷ 8 ∷ 0 ∷ 0 ∷ 2 ∷ 1 ∷ [];
+    } ∷
+    record {
+      value = record { actor = 4294967295; act = acts.CloseRun; outcome = outcomes.Reply replies.Done };
+      bytes =
+          0 ∷ 0 ∷ 0 ∷ 6 ∷ 255 ∷ 255 ∷ 255 ∷ 255 ∷ 5 ∷ 1 ∷ [];
+    } ∷ []
 
 -- frames that spell no record: without an act, with an act that is none, with a byte too many, and closed by a process
 abbrev pub no_records : List (List ℕ)

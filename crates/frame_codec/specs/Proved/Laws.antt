@@ -16,21 +16,25 @@ use Rattle.frame_codec.specs.Given.{HasGiven}
 
 -- no value's frame begins that of another, so what was written is read again, whatever follows it
 abbrev pub OneForm : {A : Type 0} → (A → List ℕ → Type 0) → ℕ → Type 0
-OneForm {A} Spells most = (a b : A) (first second x y : List ℕ) → IsFrame Spells most a first → IsFrame Spells most b second → first ++ x ≡ second ++ y → (a ≡ b) × (first ≡ second) × (x ≡ y)
+OneForm {A} Spells most = (a b : A) (first second x y : List ℕ) → IsFrame Spells most a first → IsFrame Spells most b second → first ++ x ≡ second ++ y →
+    (a ≡ b) × (first ≡ second) × (x ≡ y)
 
 -- however a stream is cut into pieces, a decoder gives its values, and tells its fault where it has one
 abbrev pub CutsDoNotMatter : {A : Type 0} → (A → List ℕ → Type 0) → ℕ → Type 0
-CutsDoNotMatter {A} Spells most = (pieces : List (List ℕ)) (new : DecoderState) (values : List A) (told : Progress) → FeedsAll Spells most fresh new pieces values told → AreValues Spells most 0 (concat pieces) values told
+CutsDoNotMatter {A} Spells most = (pieces : List (List ℕ)) (new : DecoderState) (values : List A) (told : Progress) →
+    FeedsAll Spells most fresh new pieces values told → AreValues Spells most 0 (concat pieces) values told
 
 -- bytes have one list of values, and one fault or none
 abbrev pub OneReading : {A : Type 0} → (A → List ℕ → Type 0) → ℕ → Type 0
 OneReading {A} Spells most =
-    (bytes : List ℕ) (values others : List A) (told other : Progress) → AreValues Spells most 0 bytes values told → AreValues Spells most 0 bytes others other → (values ≡ others) × (told ≡ other)
+    (bytes : List ℕ) (values others : List A) (told other : Progress) → AreValues Spells most 0 bytes values told → AreValues Spells most 0 bytes others other →
+    (values ≡ others) × (told ≡ other)
 
 -- and this list is the longest: any whose frames begin the bytes is the front of it
 abbrev pub LongestReading : {A : Type 0} → (A → List ℕ → Type 0) → ℕ → Type 0
 LongestReading {A} Spells most =
-    (bytes : List ℕ) (values others : List A) (told : Progress) (text rest : List ℕ) → AreValues Spells most 0 bytes values told → AreFrames Spells most others text → bytes ≡ text ++ rest
+    (bytes : List ℕ) (values others : List A) (told : Progress) (text rest : List ℕ) → AreValues Spells most 0 bytes values told →
+    AreFrames Spells most others text → bytes ≡ text ++ rest
     → (more : List A) × (values ≡ others ++ more)
 
 -- where bytes are the frames of values, what is read of any front of them has no fault, and is a front of the values
@@ -42,7 +46,8 @@ FrontReads {A} Spells most =
 -- bytes that are too few for a frame, or that begin with one at fault, do not begin with a value's frame
 abbrev pub NoFrameThere : {A : Type 0} → (A → List ℕ → Type 0) → ℕ → Type 0
 NoFrameThere {A} Spells most =
-    (value : A) (first more : List ℕ) → IsFrame Spells most value first → IsShort most (first ++ more) ⊎ (IsMalformed Spells most (first ++ more) ⊎ IsTooLong most (first ++ more)) → ⊥
+    (value : A) (first more : List ℕ) → IsFrame Spells most value first →
+    IsShort most (first ++ more) ⊎ (IsMalformed Spells most (first ++ more) ⊎ IsTooLong most (first ++ more)) → ⊥
 
 -- the fault with which bytes begin, before which there were so many
 abbrev pub IsFault : {A : Type 0} → (A → List ℕ → Type 0) → ℕ → List ℕ → ℕ → Progress → Type 0
@@ -66,7 +71,8 @@ Gave Spells most stream values decoder fault = HasEnded Spells most stream value
 -- a decoder that gave the values of a stream gives those of the stream and a piece more
 abbrev pub PiecesGoOn : {A : Type 0} → (A → List ℕ → Type 0) → ℕ → Type 0
 PiecesGoOn {A} Spells most =
-    (stream piece : List ℕ) (values more : List A) (old new : DecoderState) (told : Progress) → HasGiven Spells most stream values old → Feeds Spells most old new piece more told
+    (stream piece : List ℕ) (values more : List A) (old new : DecoderState) (told : Progress) → HasGiven Spells most stream values old →
+    Feeds Spells most old new piece more told
     → Gave Spells most (stream ++ piece) (values ++ more) new told
 
 -- an act that may be answered with data: a read, or a parked call that is taken up again

@@ -80,7 +80,8 @@ FailsAs text end = FailsReading (script text) end
 
 -- the text is a script in this spelling, and these are the lines of its acts
 abbrev pub RunsText : Limits → Spelling → List ℕ → List ℕ → Type 0
-RunsText limits how text written = (acts : List ScriptAct) × (read_in how text ≡ Ok acts) × (output : List ℕ) × IsOutput limits acts output × (written ≡ lines_in how output)
+RunsText limits how text written = (acts : List ScriptAct) × (read_in how text ≡ Ok acts) × (output : List ℕ) × IsOutput limits acts output ×
+    (written ≡ lines_in how output)
 
 -- the end tells why it gave none
 abbrev pub FailsTold : Spelling → List ℕ → JobEnd → Type 0

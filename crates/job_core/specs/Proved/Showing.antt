@@ -45,7 +45,8 @@ pub record TakesBody (headed : ℕ) (piece : List ℕ) (old new : ShownState) (t
   pub added : List Record
   pub text_is : more ≡ text ++ lines_from old.lines added
   pub lines_are : new.lines ≡ lines_after old.lines added
-  pub gives : (body : List ℕ) (records : List Record) → HasGiven SpellsRecord RECORD_LENGTH_MAX body records old.decoder → BodyGives headed (body ++ piece) (records ++ added) new found
+  pub gives : (body : List ℕ) (records : List Record) → HasGiven SpellsRecord RECORD_LENGTH_MAX body records old.decoder →
+      BodyGives headed (body ++ piece) (records ++ added) new found
 
 -- what is found in bytes
 abbrev pub IsFound : List ℕ → List Record → ShownState → Option ℕ → Type 0

@@ -8,7 +8,8 @@ use Rattle.logged_streams.specs.declared.reading.ReadEnd.{ReadEnd}
 use Rattle.logged_streams.specs.declared.reading.ReadEnd.TheVariants as end
 
 -- what one read leads to, where these bytes were taken (own)
-abbrev pub LeadsTo : {O T A : Type 0} → (T → O → T → O → List ℕ → Type 0) → (T → O → T → O → List ℕ → A → Type 0) → LoggedReaderState → LoggedReaderState → T → O → T → O → List ℕ → Option (ReadEnd A) → Type 0
+abbrev pub LeadsTo : {O T A : Type 0} → (T → O → T → O → List ℕ → Type 0) → (T → O → T → O → List ℕ → A → Type 0) → LoggedReaderState → LoggedReaderState → T →
+    O → T → O → List ℕ → Option (ReadEnd A) → Type 0
 LeadsTo Taken Told from to first was taker out input None = Taken first was taker out input
 LeadsTo Taken Told from to first was taker out input (Some end.AtEnd) = Taken first was taker out input
 LeadsTo Taken Told from to first was taker out input (Some end.CannotRead) = Taken first was taker out input
@@ -22,16 +23,19 @@ IsLogged from to (Some end.CannotRead) = IsBroken to.log
 IsLogged from to (Some (end.Told told)) = to.log.failed ≡ from.log.failed
 
 -- one read, and what came of it (own)
-pub record ReadsPiece {O T A : Type 0} (Taken : T → O → T → O → List ℕ → Type 0) (Told : T → O → T → O → List ℕ → A → Type 0) (room : ℕ) (from to : LoggedReaderState) (old : T) (out : O) (new : T) (after : O) (found : Option (ReadEnd A)) : Type 0 where
+pub record ReadsPiece {O T A : Type 0} (Taken : T → O → T → O → List ℕ → Type 0) (Told : T → O → T → O → List ℕ → A → Type 0) (room : ℕ)
+    (from to : LoggedReaderState) (old : T) (out : O) (new : T) (after : O) (found : Option (ReadEnd A)) : Type 0 where
   pub piece : List ℕ
   pub short : length piece ≤ room
   pub consumes : Consumes from.remaining to.remaining piece
   pub calls : to.log.calls ≡ one_more from.log.calls
   pub logged : IsLogged from to found
-  pub leads : (first : T) (was : O) (input : List ℕ) → Taken first was old out input → length input + room ≤ taken_max → LeadsTo Taken Told from to first was new after (input ++ piece) found
+  pub leads : (first : T) (was : O) (input : List ℕ) → Taken first was old out input → length input + room ≤ taken_max →
+      LeadsTo Taken Told from to first was new after (input ++ piece) found
 
 -- so many reads so far (own)
-pub record HasRead {O T : Type 0} (Taken : T → O → T → O → List ℕ → Type 0) (room : ℕ) (from to : LoggedReaderState) (first : T) (was : O) (taker : T) (out : O) (turns : ℕ) : Type 0 where
+pub record HasRead {O T : Type 0} (Taken : T → O → T → O → List ℕ → Type 0) (room : ℕ) (from to : LoggedReaderState) (first : T) (was : O) (taker : T) (out : O)
+    (turns : ℕ) : Type 0 where
   pub input : List ℕ
   pub consumes : Consumes from.remaining to.remaining input
   pub taken : Taken first was taker out input

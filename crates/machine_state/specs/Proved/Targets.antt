@@ -48,7 +48,8 @@ files_left (Gone target mode) pipe files = without_use (file_of_target target) (
 abbrev pub CanLeave : Dropped → List (Option (Used StoredPipe)) → List (Option (Used StoredFile)) → Type 0
 CanLeave Still pipes files = Unit {0}
 CanLeave (Gone target mode) pipes files =
-    ((number : ℕ) → pipe_at target ≡ Some number → HasEndAt pipes mode number) × ((number : ℕ) → file_of_target target ≡ Some number → is_some (slot files number) ≡ true)
+    ((number : ℕ) → pipe_at target ≡ Some number → HasEndAt pipes mode number) × ((number : ℕ) → file_of_target target ≡ Some number →
+    is_some (slot files number) ≡ true)
 
 -- an end of a FIFO's pipe is one of that FIFO
 abbrev pub EndsAreTheirs : World → Type 0

@@ -12,8 +12,12 @@ returns-then-name-at c =
 
 pub loop-at-preserved : goal.loop-at-preserved
 loop-at-preserved c =
-    let both = c.loop-at.invariant.0 in
-    (both, omega arith, rw add-one (passed c.args.name.now c.args.other.now c.loop-at.at (omega arith) (omega arith) c.if-name-at.false ∙ c.loop-at.invariant.2))
+    let both = c.loop-at.invariant.0 in (
+      both,
+      omega arith,
+      rw add-one (passed c.args.name.now c.args.other.now c.loop-at.at (omega arith) (omega arith) c.if-name-at.false ∙
+          c.loop-at.invariant.2),
+    )
 
 pub returns : goal.returns
 returns c =

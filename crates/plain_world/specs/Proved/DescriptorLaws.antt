@@ -20,7 +20,8 @@ pub record GivesLowest (w v : World) (process : ℕ) (c : Call) (outcome : Outco
 
 -- so does each open that is not refused (page of open; own: of one that waits); what one that waits keeps, its resume tells: `ReadyOpenEnds` of posix_model
 abbrev pub OpenGivesLowest : Type 0
-OpenGivesLowest = (bounds : Bounds) (w : World) (process : ℕ) (name : List ℕ) (flags : OpenFlags) → IsNoError (outcome_of bounds w process (call.Open name flags)) →
+OpenGivesLowest = (bounds : Bounds) (w : World) (process : ℕ) (name : List ℕ) (flags : OpenFlags) →
+    IsNoError (outcome_of bounds w process (call.Open name flags)) →
     GivesLowest w (before_sweep bounds w process (call.Open name flags)) process (call.Open name flags) (outcome_of bounds w process (call.Open name flags))
 
 -- a close that is not refused leaves its descriptor not open (page of close)
@@ -43,7 +44,8 @@ DupLeads = (bounds : Bounds) (w : World) (process : ℕ) (fd : ℤ) (told : ℕ)
 -- process has its descriptors, as it has in a history (page of dup2)
 abbrev pub Dup2Leads : Type 0
 Dup2Leads = (bounds : Bounds) (w : World) (process : ℕ) (fd to : ℤ) (told : ℕ) → EachThere (λ x. length x.table ≡ OPEN_MAX) w.processes →
-    outcome_of bounds w process (call.Dup2 fd to) ≡ Replied (Number told) → (pos told ≡ to) × Leads w (before_sweep bounds w process (call.Dup2 fd to)) process told fd
+    outcome_of bounds w process (call.Dup2 fd to) ≡ Replied (Number told) → (pos told ≡ to) × Leads w (before_sweep bounds w process (call.Dup2 fd to)) process
+    told fd
 
 -- of equal numbers nothing changes (page of dup2)
 abbrev pub Dup2KeepsEqual : Type 0
@@ -64,7 +66,8 @@ pub record NeedAccess (bounds : Bounds) (w : World) (process : ℕ) (fd : ℤ) (
 
 -- so it is of each descriptor that is open (pages of read, write and ftruncate)
 abbrev pub AccessIsNeeded : Type 0
-AccessIsNeeded = (bounds : Bounds) (w : World) (process : ℕ) (fd : ℤ) (o : OpenDescriptor) → opened w process fd ≡ Some o → NeedAccess bounds w process fd o.description.mode
+AccessIsNeeded = (bounds : Bounds) (w : World) (process : ℕ) (fd : ℤ) (o : OpenDescriptor) → opened w process fd ≡ Some o →
+    NeedAccess bounds w process fd o.description.mode
 
 -- a call leaves each other process that was there before as it was, and so its descriptors (XBD 3, File Descriptor)
 abbrev pub ProcessesAreApart : Type 0

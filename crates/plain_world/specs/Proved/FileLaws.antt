@@ -62,19 +62,22 @@ FtruncateLeavesResized = (bounds : Bounds) (w : World) (process : ℕ) (fd len :
 
 -- an ftruncate leaves every open file description, with its offset, as it was (page of ftruncate)
 abbrev pub FtruncateKeepsOffsets : Type 0
-FtruncateKeepsOffsets = (bounds : Bounds) (w : World) (process : ℕ) (fd len : ℤ) → (before_sweep bounds w process (call.Ftruncate fd len)).descriptions ≡ w.descriptions
+FtruncateKeepsOffsets = (bounds : Bounds) (w : World) (process : ℕ) (fd len : ℤ) → (before_sweep bounds w process (call.Ftruncate fd len)).descriptions
+    ≡ w.descriptions
 
 -- a write of some bytes that is not refused puts those that it took at the offset, or at the end under append (page of write)
 abbrev pub WritePuts : Type 0
 WritePuts = (bounds : Bounds) (w : World) (process : ℕ) (fd : ℤ) (bytes : List ℕ) (o : OpenDescriptor) (file n : ℕ) → OpenOn w process fd o file →
     bytes ≢ [] → outcome_of bounds w process (call.Write fd bytes) ≡ Replied (Number n) →
-    bytes_of (before_sweep bounds w process (call.Write fd bytes)) file ≡ splice (bytes_of w file) (write_start o.description (length (bytes_of w file))) (take n bytes)
+    bytes_of (before_sweep bounds w process (call.Write fd bytes)) file ≡ splice (bytes_of w file) (write_start o.description (length (bytes_of w file)))
+    (take n bytes)
 
 -- and leaves the offset after those that it took (page of write)
 abbrev pub WriteMoves : Type 0
 WriteMoves = (bounds : Bounds) (w : World) (process : ℕ) (fd : ℤ) (bytes : List ℕ) (o : OpenDescriptor) (file n : ℕ) → OpenOn w process fd o file →
     bytes ≢ [] → outcome_of bounds w process (call.Write fd bytes) ≡ Replied (Number n) →
-    slot (before_sweep bounds w process (call.Write fd bytes)).descriptions o.number ≡ Some (at_offset (write_start o.description (length (bytes_of w file)) + n) o.description)
+    slot (before_sweep bounds w process (call.Write fd bytes)).descriptions o.number ≡ Some
+    (at_offset (write_start o.description (length (bytes_of w file)) + n) o.description)
 
 -- it takes all of them, or as many as there is room for below the size limit (page of write)
 abbrev pub WriteTakesAll : Type 0
@@ -106,12 +109,14 @@ ReadGives = (bounds : Bounds) (w : World) (process : ℕ) (fd : ℤ) (count : �
 
 -- a pread gives those from its position on (page of read, pread)
 abbrev pub PreadGives : Type 0
-PreadGives = (bounds : Bounds) (w : World) (process : ℕ) (fd start : ℤ) (count : ℕ) (o : OpenDescriptor) (file : ℕ) (got : List ℕ) → OpenOn w process fd o file →
+PreadGives = (bounds : Bounds) (w : World) (process : ℕ) (fd start : ℤ) (count : ℕ) (o : OpenDescriptor) (file : ℕ) (got : List ℕ) →
+    OpenOn w process fd o file →
     outcome_of bounds w process (call.Pread fd start count) ≡ Replied (Data got) → IsRead (bytes_of w file) (bytes_before start) count got
 
 -- a read of a regular file leaves the offset after the bytes that it gave, so the next one goes on there (page of read)
 abbrev pub ReadMoves : Type 0
-ReadMoves = (bounds : Bounds) (w : World) (process : ℕ) (fd : ℤ) (count : ℕ) (o : OpenDescriptor) (got : List ℕ) → opened w process fd ≡ Some o → is_regular o ≡ true →
+ReadMoves = (bounds : Bounds) (w : World) (process : ℕ) (fd : ℤ) (count : ℕ) (o : OpenDescriptor) (got : List ℕ) → opened w process fd ≡ Some o →
+    is_regular o ≡ true →
     outcome_of bounds w process (call.Read fd count) ≡ Replied (Data got) →
     slot (before_sweep bounds w process (call.Read fd count)).descriptions o.number ≡ Some (at_offset (o.description.offset + length got) o.description)
 
@@ -123,7 +128,8 @@ pub record Seeks (bounds : Bounds) (w : World) (process : ℕ) (fd offset : ℤ)
 
 -- and that is what each of them tells (page of lseek)
 abbrev pub SeekTells : Type 0
-SeekTells = (bounds : Bounds) (w : World) (process : ℕ) (fd offset : ℤ) (o : OpenDescriptor) (file n : ℕ) → OpenOn w process fd o file → Seeks bounds w process fd offset o file n
+SeekTells = (bounds : Bounds) (w : World) (process : ℕ) (fd offset : ℤ) (o : OpenDescriptor) (file n : ℕ) → OpenOn w process fd o file →
+    Seeks bounds w process fd offset o file n
 
 -- and leaves the offset of its open file description there (page of lseek)
 abbrev pub SeekMoves : Type 0
@@ -178,7 +184,8 @@ pub record LeaveFile (bounds : Bounds) (w : World) (process : ℕ) (fd start len
 
 -- and so they leave each file but the one that the descriptor is open on (pages of write, pwrite and ftruncate)
 abbrev pub OwnFileAlone : Type 0
-OwnFileAlone = (bounds : Bounds) (w : World) (process : ℕ) (fd start len : ℤ) (bytes : List ℕ) (o : OpenDescriptor) (number n : ℕ) → OpenOn w process fd o number → n ≢ number →
+OwnFileAlone = (bounds : Bounds) (w : World) (process : ℕ) (fd start len : ℤ) (bytes : List ℕ) (o : OpenDescriptor) (number n : ℕ) →
+    OpenOn w process fd o number → n ≢ number →
     LeaveFile bounds w process fd start len bytes n
 
 -- the second world has the files, with their bytes, and the names of the first
@@ -231,7 +238,8 @@ pub record OpensLowest (w v : World) (process : ℕ) (name : List ℕ) (flags : 
 
 -- so does each open that is not refused, whether it tells its descriptor or waits (page of open; own: of one that waits)
 abbrev pub OpenDescribes : Type 0
-OpenDescribes = (bounds : Bounds) (w : World) (process : ℕ) (name : List ℕ) (flags : OpenFlags) → IsNoError (outcome_of bounds w process (call.Open name flags)) →
+OpenDescribes = (bounds : Bounds) (w : World) (process : ℕ) (name : List ℕ) (flags : OpenFlags) →
+    IsNoError (outcome_of bounds w process (call.Open name flags)) →
     OpensLowest w (before_sweep bounds w process (call.Open name flags)) process name flags (outcome_of bounds w process (call.Open name flags))
 
 -- an open file description is for reading where the flags ask for that, and for writing where they ask for that (page of open)
@@ -241,7 +249,8 @@ pub record IsForAsked (mode : Mode) (flags : OpenFlags) : Type 0 where
 
 -- so is that of each open that is not refused (page of open)
 abbrev pub OpenIsForAsked : Type 0
-OpenIsForAsked = (bounds : Bounds) (w : World) (process : ℕ) (name : List ℕ) (flags : OpenFlags) → IsNoError (outcome_of bounds w process (call.Open name flags)) →
+OpenIsForAsked = (bounds : Bounds) (w : World) (process : ℕ) (name : List ℕ) (flags : OpenFlags) →
+    IsNoError (outcome_of bounds w process (call.Open name flags)) →
     IsForAsked (mode_of flags) flags
 
 -- an open under excl and creat that is not refused is of a name that was not there (page of open)
@@ -267,10 +276,12 @@ OpenKeepsFiles = (bounds : Bounds) (w : World) (process : ℕ) (name : List ℕ)
 
 -- and no open of a name that is there changes another file (page of open)
 abbrev pub OpenKeepsOthers : Type 0
-OpenKeepsOthers = (bounds : Bounds) (w : World) (process : ℕ) (name : List ℕ) (flags : OpenFlags) (number n : ℕ) → file_of name w.names ≡ Some number → n ≢ number →
+OpenKeepsOthers = (bounds : Bounds) (w : World) (process : ℕ) (name : List ℕ) (flags : OpenFlags) (number n : ℕ) → file_of name w.names ≡ Some number →
+    n ≢ number →
     slot (before_sweep bounds w process (call.Open name flags)).files n ≡ slot w.files n
 
 -- an open of a new name that is not refused adds an empty regular file, and changes no other (page of open)
 abbrev pub OpenMakesEmpty : Type 0
 OpenMakesEmpty = (bounds : Bounds) (w : World) (process : ℕ) (name : List ℕ) (flags : OpenFlags) → file_of name w.names ≡ None →
-    IsNoError (outcome_of bounds w process (call.Open name flags)) → (before_sweep bounds w process (call.Open name flags)).files ≡ w.files ++ Some (file.Regular []) ∷ []
+    IsNoError (outcome_of bounds w process (call.Open name flags)) → (before_sweep bounds w process (call.Open name flags)).files ≡ w.files ++ Some
+    (file.Regular []) ∷ []

@@ -48,12 +48,15 @@ NoLowestIsFull = (slots : List (Option ℕ)) (m : ℕ) → lowest slots ≡ None
 -- an act leaves each open file description that is there, with its offset, but the one that its own descriptor leads to (XBD 3, File Offset)
 abbrev pub OffsetsAreApart : Type 0
 OffsetsAreApart = (bounds : Bounds) (w : World) (actor : ℕ) (act : Act) (d : Decided) (number : ℕ) → comes_to bounds w actor act ≡ Some d →
-    number_at w actor act ≢ Some number → number < length w.descriptions → slot (changed w (given act) d.change).descriptions number ≡ slot w.descriptions number
+    number_at w actor act ≢ Some number → number < length w.descriptions → slot (changed w (given act) d.change).descriptions number
+    ≡ slot w.descriptions number
 
 -- and what of the others is there after the step was there before, as it is (XBD 3, File Offset)
 abbrev pub OffsetsStayApart : Type 0
-OffsetsStayApart = (bounds : Bounds) (w : World) (actor : ℕ) (act : Act) (s : Stepped) (number : ℕ) (description : Description) → step bounds w actor act ≡ Some s →
-    number_at w actor act ≢ Some number → number < length w.descriptions → slot s.world.descriptions number ≡ Some description → slot w.descriptions number ≡ Some description
+OffsetsStayApart = (bounds : Bounds) (w : World) (actor : ℕ) (act : Act) (s : Stepped) (number : ℕ) (description : Description) →
+    step bounds w actor act ≡ Some s →
+    number_at w actor act ≢ Some number → number < length w.descriptions → slot s.world.descriptions number ≡ Some description →
+    slot w.descriptions number ≡ Some description
 
 -- a step takes no more bytes than its call gives, or the call that its process waits in (page of write)
 abbrev pub TakesFew : Type 0
@@ -79,4 +82,5 @@ LegalIsAnswered = (bounds : Bounds) (before rest : List Record) (r : Record) →
 
 -- and a history in which every record is answered so is legal (own)
 abbrev pub AnsweredIsLegal : Type 0
-AnsweredIsLegal = (bounds : Bounds) (h : List Record) → ((before rest : List Record) (r : Record) → h ≡ before ++ r ∷ rest → IsAnswered bounds before r) → legal bounds h
+AnsweredIsLegal = (bounds : Bounds) (h : List Record) → ((before rest : List Record) (r : Record) → h ≡ before ++ r ∷ rest → IsAnswered bounds before r) →
+    legal bounds h

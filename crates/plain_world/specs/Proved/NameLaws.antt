@@ -45,9 +45,11 @@ pub record Renamed (w v : World) (old new : List ℕ) : Type 0 where
 -- a rename that is not refused, of a name to one that does not lead to the same file, moves the name and changes nothing else; what
 -- the new name led to has one name less (page of rename)
 abbrev pub RenameNames : Type 0
-RenameNames = (bounds : Bounds) (w : World) (process : ℕ) (old new : List ℕ) → file_of new w.names ≢ file_of old w.names → outcome_of bounds w process (call.Rename old new) ≡ Replied Done →
+RenameNames = (bounds : Bounds) (w : World) (process : ℕ) (old new : List ℕ) → file_of new w.names ≢ file_of old w.names →
+    outcome_of bounds w process (call.Rename old new) ≡ Replied Done →
     Renamed w (before_sweep bounds w process (call.Rename old new)) old new
 
 -- and of two names of one file changes nothing (page of rename)
 abbrev pub RenameOfOneFile : Type 0
-RenameOfOneFile = (bounds : Bounds) (w : World) (process : ℕ) (old new : List ℕ) → file_of new w.names ≡ file_of old w.names → before_sweep bounds w process (call.Rename old new) ≡ w
+RenameOfOneFile = (bounds : Bounds) (w : World) (process : ℕ) (old new : List ℕ) → file_of new w.names ≡ file_of old w.names →
+    before_sweep bounds w process (call.Rename old new) ≡ w

@@ -22,7 +22,8 @@ use Rattle.plain_world.specs.Proved.Calls.{outcome_of, before_sweep, IsNoError}
 
 -- an open of a FIFO that is not refused is for reading or for writing, and not for both (own; page of open: for both it is undefined)
 abbrev pub FifoOpensOneWay : Type 0
-FifoOpensOneWay = (bounds : Bounds) (w : World) (process : ℕ) (name : List ℕ) (flags : OpenFlags) (number : ℕ) (fifo : Fifo) → file_of name w.names ≡ Some number →
+FifoOpensOneWay = (bounds : Bounds) (w : World) (process : ℕ) (name : List ℕ) (flags : OpenFlags) (number : ℕ) (fifo : Fifo) →
+    file_of name w.names ≡ Some number →
     fifo_at (slot w.files number) ≡ Some fifo → IsNoError (outcome_of bounds w process (call.Open name flags)) → mode_of flags ≢ mode.ReadWrite
 
 -- a FIFO was opened once more: the count of an end is one more where the open was for that end, and else as it was
@@ -34,7 +35,8 @@ pub record CountsOpening (v : World) (number : ℕ) (mode : Mode) (before : Fifo
 
 -- so does each open of a FIFO that is not refused: one that waits does not raise the count that it waits for (own)
 abbrev pub FifoCountsOpenings : Type 0
-FifoCountsOpenings = (bounds : Bounds) (w : World) (process : ℕ) (name : List ℕ) (flags : OpenFlags) (number : ℕ) (fifo : Fifo) → file_of name w.names ≡ Some number →
+FifoCountsOpenings = (bounds : Bounds) (w : World) (process : ℕ) (name : List ℕ) (flags : OpenFlags) (number : ℕ) (fifo : Fifo) →
+    file_of name w.names ≡ Some number →
     fifo_at (slot w.files number) ≡ Some fifo → IsNoError (outcome_of bounds w process (call.Open name flags)) →
     CountsOpening (before_sweep bounds w process (call.Open name flags)) number (mode_of flags) fifo
 
@@ -49,7 +51,8 @@ pub record OpensEmpty (w v : World) (process number : ℕ) : Type 0 where
 -- an open that is not refused, of a FIFO of which no end is open, leads to a pipe that is empty: what was left in an earlier one
 -- is gone (page of open; page of close: what is left is discarded with the last end)
 abbrev pub ReopenedIsEmpty : Type 0
-ReopenedIsEmpty = (bounds : Bounds) (w : World) (process : ℕ) (name : List ℕ) (flags : OpenFlags) (number : ℕ) (fifo : Fifo) → file_of name w.names ≡ Some number →
+ReopenedIsEmpty = (bounds : Bounds) (w : World) (process : ℕ) (name : List ℕ) (flags : OpenFlags) (number : ℕ) (fifo : Fifo) →
+    file_of name w.names ≡ Some number →
     fifo_at (slot w.files number) ≡ Some fifo → fifo.pipe ≡ None → IsNoError (outcome_of bounds w process (call.Open name flags)) →
     OpensEmpty w (before_sweep bounds w process (call.Open name flags)) process number
 
@@ -72,7 +75,8 @@ WriteLosesNothing = (bounds : Bounds) (w : World) (process : ℕ) (fd : ℤ) (by
 -- and so does a resume of a process that waits in a write (page of write)
 abbrev pub ResumedWriteLosesNothing : Type 0
 ResumedWriteLosesNothing = (bounds : Bounds) (w : World) (process : ℕ) (parked : Parked) (fd : ℤ) (bytes : List ℕ) (d : Decided) (pipe : ℕ) (there : List ℕ) →
-    parked_of (slot w.processes process) ≡ Some parked → parked.call ≡ call.Write fd bytes → comes_to bounds w process act.Resume ≡ Some d → slot w.pipes pipe ≡ Some there →
+    parked_of (slot w.processes process) ≡ Some parked → parked.call ≡ call.Write fd bytes → comes_to bounds w process act.Resume ≡ Some d →
+    slot w.pipes pipe ≡ Some there →
     HoldsAfter there (slot (changed w [] d.change).pipes pipe)
 
 -- a write tells a number, and then all its bytes stand after those that the pipe held; or it changes nothing

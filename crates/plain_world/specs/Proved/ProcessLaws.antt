@@ -29,7 +29,8 @@ ForkCopies = (bounds : Bounds) (w : World) (parent child : ℕ) → IsThere w.pr
 
 -- after it each descriptor of the child leads to the description that the same descriptor of its parent leads to (page of fork)
 abbrev pub ForkShares : Type 0
-ForkShares = (bounds : Bounds) (w : World) (parent child : ℕ) (fd : ℤ) → IsThere w.processes parent → outcome_of bounds w parent call.Fork ≡ Replied (Number child) →
+ForkShares = (bounds : Bounds) (w : World) (parent child : ℕ) (fd : ℤ) → IsThere w.processes parent → outcome_of bounds w parent call.Fork ≡ Replied
+    (Number child) →
     number_of (before_sweep bounds w parent call.Fork) child fd ≡ number_of (before_sweep bounds w parent call.Fork) parent fd
 
 -- a fork where there may be no further process is EAGAIN and changes nothing, so no number is used (page of fork)
@@ -71,12 +72,15 @@ pub record AfterExit (w v : World) (process : ℕ) : Type 0 where
   pub all : length v.processes ≡ length w.processes
   pub names : v.names ≡ w.names
   pub closed : v.closed ≡ w.closed
-  pub descriptions : (number : ℕ) → slot v.descriptions number ≡ (if is_referred (slice_set w.processes process None) number then slot w.descriptions number else None)
-  pub files : (number : ℕ) → slot v.files number ≡ (if is_wanted w.names v.descriptions number then without_gone_pipe v.descriptions (slot w.files number) else None)
+  pub descriptions : (number : ℕ) → slot v.descriptions number ≡
+      (if is_referred (slice_set w.processes process None) number then slot w.descriptions number else None)
+  pub files : (number : ℕ) → slot v.files number ≡ (if is_wanted w.names v.descriptions number then without_gone_pipe v.descriptions
+      (slot w.files number) else None)
 
 -- an exit that is a step replies Done, ends its process and frees what only that process had open (page of exit)
 abbrev pub ExitFrees : Type 0
-ExitFrees = (bounds : Bounds) (w : World) (process : ℕ) (s : Stepped) → step bounds w process act.Exit ≡ Some s → (s.outcome ≡ Replied Done) × AfterExit w s.world process
+ExitFrees = (bounds : Bounds) (w : World) (process : ℕ) (s : Stepped) → step bounds w process act.Exit ≡ Some s →
+    (s.outcome ≡ Replied Done) × AfterExit w s.world process
 
 -- a closing of a run that is not closed closes it and changes nothing else, where the world was its own sweep (own)
 abbrev pub ClosingCloses : Type 0

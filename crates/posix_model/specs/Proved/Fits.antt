@@ -86,7 +86,8 @@ ProcessFits w on_process.Close = Unit {0}
 abbrev pub TableFits : World → TableEdit → Type 0
 TableFits w on_table.Nothing = Unit {0}
 TableFits w (on_table.Describe number edit) = IsThere w.descriptions number
-TableFits w (on_table.Open process fd description) = CanOpen w process fd description × IsItsFifo w.files description.target × IsOnItsPipe w.files description.target
+TableFits w (on_table.Open process fd description) = CanOpen w process fd description × IsItsFifo w.files description.target × IsOnItsPipe w.files
+    description.target
 TableFits w (on_table.OpenPair process reading writing) = CanOpenPair w process reading writing
 TableFits w (on_table.OpenEnd process fd file description) = CanOpenEnd w process fd file description
 TableFits w (on_table.Entry process fd entry) = CanSet w process fd entry

@@ -47,11 +47,13 @@ pub record Counts (w v : World) (more ends : ℕ) (closing : Bool) : Type 0 wher
 
 -- a step adds as many processes as its act and outcome tell, ends as many as its act does, and closes the run where its act does
 abbrev pub StepTellsProcesses : Type 0
-StepTellsProcesses = (bounds : Bounds) (w : World) (actor : ℕ) (act : Act) (s : Stepped) → step bounds w actor act ≡ Some s → Counts w s.world (added act s.outcome) (ended act) (closes act)
+StepTellsProcesses = (bounds : Bounds) (w : World) (actor : ℕ) (act : Act) (s : Stepped) → step bounds w actor act ≡ Some s →
+    Counts w s.world (added act s.outcome) (ended act) (closes act)
 
 -- as many as are known before it
 abbrev pub StepPlansProcesses : Type 0
-StepPlansProcesses = (bounds : Bounds) (w : World) (actor : ℕ) (act : Act) (s : Stepped) → step bounds w actor act ≡ Some s → Counts w s.world (adds w act) (ended act) (closes act)
+StepPlansProcesses = (bounds : Bounds) (w : World) (actor : ℕ) (act : Act) (s : Stepped) → step bounds w actor act ≡ Some s →
+    Counts w s.world (adds w act) (ended act) (closes act)
 
 -- a run that can be ended after a history could be ended after each record of it
 abbrev pub ReserveWasKept : Type 0

@@ -68,4 +68,5 @@ NamesRelease = (w : World) (names : Entries) (f : ℕ) → IsSettled w → ((g :
 
 -- a sweep sees of names only how many each file has
 abbrev pub SweepCounts : Type 0
-SweepCounts = (w : World) (names : Entries) → ((g : ℕ) → links names g ≡ links w.names g) → sweep (record w { names = names }) ≡ record (sweep w) { names = names }
+SweepCounts = (w : World) (names : Entries) → ((g : ℕ) → links names g ≡ links w.names g) → sweep (record w { names = names }) ≡ record
+    (sweep w) { names = names }

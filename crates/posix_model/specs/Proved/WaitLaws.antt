@@ -42,7 +42,8 @@ is_nonblocking w process other = option_map_or (λ o. o.description.nonblock) (o
 
 -- no call under nonblock waits (O_NONBLOCK of open, read and write)
 abbrev pub NonblockNeverWaits : Type 0
-NonblockNeverWaits = (bounds : Bounds) (w : World) (process : ℕ) (c : Call) (moved : ℕ) → is_nonblocking w process c ≡ true → (decided bounds w process c).outcome ≢ ParkedAt moved
+NonblockNeverWaits = (bounds : Bounds) (w : World) (process : ℕ) (c : Call) (moved : ℕ) → is_nonblocking w process c ≡ true →
+    (decided bounds w process c).outcome ≢ ParkedAt moved
 
 -- a process waits in this call, on an end of this pipe
 pub record WaitsOn (w : World) (process : ℕ) (c : Call) (pipe : ℕ) : Type 0 where
@@ -70,7 +71,8 @@ pub record BreaksAlone (w : World) (process : ℕ) (error : Errno) (d : Decided)
 
 -- every resume that is refused is refused so (page of write)
 abbrev pub ResumeBreaksAlone : Type 0
-ResumeBreaksAlone = (bounds : Bounds) (w : World) (process : ℕ) (d : Decided) (error : Errno) → comes_to bounds w process act.Resume ≡ Some d → d.outcome ≡ Replied (Error error) → BreaksAlone w process error d
+ResumeBreaksAlone = (bounds : Bounds) (w : World) (process : ℕ) (d : Decided) (error : Errno) → comes_to bounds w process act.Resume ≡ Some d →
+    d.outcome ≡ Replied (Error error) → BreaksAlone w process error d
 
 -- the world in which a process waits in no call
 abbrev pub unparked : World → ℕ → World
@@ -83,11 +85,13 @@ pub record BrokenStep (w : World) (process : ℕ) (error : Errno) (s : Stepped) 
 
 -- so it is after each step in which a resume is refused (page of write)
 abbrev pub BrokenStepUnparks : Type 0
-BrokenStepUnparks = (bounds : Bounds) (w : World) (process : ℕ) (s : Stepped) (error : Errno) → step bounds w process act.Resume ≡ Some s → s.outcome ≡ Replied (Error error) → BrokenStep w process error s
+BrokenStepUnparks = (bounds : Bounds) (w : World) (process : ℕ) (s : Stepped) (error : Errno) → step bounds w process act.Resume ≡ Some s →
+    s.outcome ≡ Replied (Error error) → BrokenStep w process error s
 
 -- and in a history, where nothing waits for a sweep, nothing else changes (own)
 abbrev pub BrokenNextUnparks : Type 0
-BrokenNextUnparks = (bounds : Bounds) (h : List Record) (process : ℕ) (s : Stepped) (error : Errno) → step bounds (world_of bounds h) process act.Resume ≡ Some s → s.outcome ≡ Replied (Error error) →
+BrokenNextUnparks = (bounds : Bounds) (h : List Record) (process : ℕ) (s : Stepped) (error : Errno) → step bounds (world_of bounds h) process act.Resume
+    ≡ Some s → s.outcome ≡ Replied (Error error) →
     s.world ≡ unparked (world_of bounds h) process
 
 -- what is recorded of a call

@@ -46,7 +46,8 @@ EachWaitsWell w = (process : ℕ) (parked : Parked) → parked_of (slot w.proces
 
 -- each step keeps that (own)
 abbrev pub StepKeepsWaits : Type 0
-StepKeepsWaits = (bounds : Bounds) (w : World) (actor : ℕ) (act : Act) (s : Stepped) → EachWaitsWell w → step bounds w actor act ≡ Some s → EachWaitsWell s.world
+StepKeepsWaits = (bounds : Bounds) (w : World) (actor : ℕ) (act : Act) (s : Stepped) → EachWaitsWell w → step bounds w actor act ≡ Some s →
+    EachWaitsWell s.world
 
 -- and so it is in every world of a history, legal or not (own)
 abbrev pub HistoryWaits : Type 0
@@ -59,10 +60,12 @@ WaitingReadIsReady = (bounds : Bounds) (w : World) (process : ℕ) (fd : ℤ) (c
 
 -- a write that waits is ready exactly where its next try ends or moves more (page of write)
 abbrev pub WaitingWriteIsReady : Type 0
-WaitingWriteIsReady = (bounds : Bounds) (w : World) (process : ℕ) (fd : ℤ) (bytes : List ℕ) (pipe : ℕ) → EachWaitsWell w → (on : WaitsOn w process (call.Write fd bytes) pipe) →
+WaitingWriteIsReady = (bounds : Bounds) (w : World) (process : ℕ) (fd : ℤ) (bytes : List ℕ) (pipe : ℕ) → EachWaitsWell w →
+    (on : WaitsOn w process (call.Write fd bytes) pipe) →
     is_ready bounds w process ≡ not (is_stuck on.parked.moved (write_try bounds w pipe (source.Parked process) (length bytes) on.parked.moved))
 
 -- and an open that waits, where it is taken up, ends with its descriptor (page of open)
 abbrev pub ReadyOpenEnds : Type 0
-ReadyOpenEnds = (bounds : Bounds) (w : World) (process : ℕ) (name : List ℕ) (flags : OpenFlags) (pipe : ℕ) (d : Decided) → (on : WaitsOn w process (call.Open name flags) pipe) →
+ReadyOpenEnds = (bounds : Bounds) (w : World) (process : ℕ) (name : List ℕ) (flags : OpenFlags) (pipe : ℕ) (d : Decided) →
+    (on : WaitsOn w process (call.Open name flags) pipe) →
     resume bounds w process ≡ Some d → d.outcome ≡ Replied (Number on.parked.fd)

@@ -48,7 +48,8 @@ IsOnItsPipe files (target.Fifo file pipe) = pipe_of_fifo (fifo_at (slot files fi
 
 -- no two FIFOs have the same pipe (own)
 abbrev pub PipesApart : List (Option File) → Type 0
-PipesApart files = (f g : ℕ) (x y : Fifo) (p : ℕ) → slot files f ≡ Some (file.Fifo x) → slot files g ≡ Some (file.Fifo y) → x.pipe ≡ Some p → y.pipe ≡ Some p → f ≡ g
+PipesApart files = (f g : ℕ) (x y : Fifo) (p : ℕ) → slot files f ≡ Some (file.Fifo x) → slot files g ≡ Some (file.Fifo y) → x.pipe ≡ Some p → y.pipe ≡ Some p →
+    f ≡ g
 
 -- the call that a process waits in asks for no more bytes than one transfer has (own)
 abbrev pub WaitsForFew : Process → Type 0

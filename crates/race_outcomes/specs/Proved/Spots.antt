@@ -54,7 +54,8 @@ GoesOn bounds lanes worlds turn going =
 pub record IsWay (bounds : Bounds) (lanes : List Lane) (worlds : List World) (way : Way) : Type 0 where
   pub within : way.turn.world < length worlds
   pub target : IfSome way.to (λ to. to.world < length worlds)
-  pub leads : LeadsBy bounds lanes (or_empty (slice_get worlds way.turn.world)) way.turn (λ told row. option_map (λ to. led worlds told way.turn.lane row to) way.to)
+  pub leads : LeadsBy bounds lanes (or_empty (slice_get worlds way.turn.world)) way.turn
+      (λ told row. option_map (λ to. led worlds told way.turn.lane row to) way.to)
 
 -- all places that are named are there, and each act that was made leads where it is said to
 pub record IsKept (bounds : Bounds) (lanes : List Lane) (search : Search) : Type 0 where
@@ -104,7 +105,8 @@ pub record Moves (bounds : Bounds) (lanes : List Lane) (old new : Search) (by : 
   pub met : new.met ≡ old.met
   pub same : met_in new ≡ met_in old
   pub kept : IsKept bounds lanes new
-  pub goes : (from : Met Spot) → slice_get old.met by.from ≡ Some from → move bounds lanes (position_of old.worlds old.rows from.position) by.lane ≡ option_map (position_of new.worlds new.rows) to
+  pub goes : (from : Met Spot) → slice_get old.met by.from ≡ Some from → move bounds lanes (position_of old.worlds old.rows from.position) by.lane ≡ option_map
+      (position_of new.worlds new.rows) to
   pub within : IfSome to (IsWithin new.worlds new.rows)
 
 -- one more position was met, or none

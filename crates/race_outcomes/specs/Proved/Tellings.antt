@@ -59,7 +59,8 @@ SaysOrNot calls seats met place (Some t) = SaysAt calls seats met t × (t.place 
 -- what the first so many of these places tell
 pub record SaidBelow (calls : List RaceCall) (seats : List Seat) (met : List (Met Position)) (ends : List ℕ) (done : ℕ) (told : List Told) : Type 0 where
   pub sound : (t : Told) → Contains told t → SaysAt calls seats met t × Contains ends t.place
-  pub complete : (i place : ℕ) (m : Met Position) → i < done → slice_get ends i ≡ Some place → slice_get met place ≡ Some m → Agrees calls (answers_at m.position.told seats)
+  pub complete : (i place : ℕ) (m : Met Position) → i < done → slice_get ends i ≡ Some place → slice_get met place ≡ Some m →
+      Agrees calls (answers_at m.position.told seats)
       → Contains (texts told) (answers_text (answers_at m.position.told seats))
 
 -- what all these places tell

@@ -35,7 +35,8 @@ PumpsTo capacity input decoder old new (Some end) = PushedBy capacity input old 
 
 -- what comes of a piece more, whatever was pushed before
 abbrev pub PumpsPiece : ℕ → List ℕ → DecoderState → DecoderState → List Request → List Request → Option PumpEnd → Type 0
-PumpsPiece capacity piece decoder after mid new found = (input : List ℕ) (old : List Request) → IsPumping input decoder old mid → PumpsTo capacity (input ++ piece) after old new found
+PumpsPiece capacity piece decoder after mid new found = (input : List ℕ) (old : List Request) → IsPumping input decoder old mid →
+    PumpsTo capacity (input ++ piece) after old new found
 
 -- the ends to which a piece may lead
 abbrev pub IsPieceEnd : Option PumpEnd → Type 0
@@ -90,7 +91,8 @@ pub record IsRung (base bell : BellState) (pushes : PushState) (reads : ℕ) (fo
 
 -- what a piece more adds, however often the bell was rung before
 abbrev pub RingsPiece : BellState → BellState → PushState → PushState → Option PumpEnd → Type 0
-RingsPiece bell bell_after pushes pushes_after found = (base : BellState) (reads : ℕ) → IsRung base bell pushes reads None → IsRung base bell_after pushes_after (reads + 1) found
+RingsPiece bell bell_after pushes pushes_after found = (base : BellState) (reads : ℕ) → IsRung base bell pushes reads None →
+    IsRung base bell_after pushes_after (reads + 1) found
 
 -- what one read adds
 pub record RingsOn (from to : LoggedReaderState) (bell bell_after : BellState) (pushes pushes_after : PushState) (found : Option PumpEnd) : Type 0 where

@@ -14,7 +14,8 @@ FlagsDecideAll records = (p : ℕ) → FlagsDecideAt records p
 -- that each record has a frame
 abbrev pub RunsAreJudged : Type 0
 RunsAreJudged =
-    (told : RunTold) → IsRun told → FlagsDecideAll told.received → is_told (told_of told.limits_are) ≡ true → IsJudged told.trace.base told.trace.now told.trace.whole told.trace.bytes
+    (told : RunTold) → IsRun told → FlagsDecideAll told.received → is_told (told_of told.limits_are) ≡ true →
+    IsJudged told.trace.base told.trace.now told.trace.whole told.trace.bytes
 
 -- of no run, whose acts are such, is it told that a record has no frame
 abbrev pub RunsAreSpelled : Type 0

@@ -41,7 +41,8 @@ ExitGoes old new process (Err refusal) = (exit_refusal old process ≡ Some refu
 -- a call is told as recorded, or as refused with nothing changed
 abbrev pub CallGoes : RunState → RunState → ℕ → Call → ScriptAnswer → Type 0
 CallGoes old new process c (Recorded told) = (call_refusal old process c ≡ None) × Grows old new process (act.Call c) told
-CallGoes old new process c (Refused actor refused refusal) = (actor ≡ process) × (refused ≡ script.Call process c) × IsDue (call_refusal old process c) refusal × (new ≡ old)
+CallGoes old new process c (Refused actor refused refusal) = (actor ≡ process) × (refused ≡ script.Call process c) × IsDue
+    (call_refusal old process c) refusal × (new ≡ old)
 CallGoes old new process c other = ⊥
 
 -- a resume is refused with nothing changed: it is due, and where its process would not be refused an exit, its call is ready
@@ -52,8 +53,10 @@ pub record ResumeRefused (s : RunState) (process : ℕ) (refusal : Refusal) : Ty
 -- a resume is recorded; or its process waits in no call that is ready; or it is refused
 abbrev pub ResumeGoes : RunState → RunState → ℕ → ScriptAnswer → Type 0
 ResumeGoes old new process (Recorded told) = (resume_refusal old process ≡ None) × (is_ready_in old process ≡ true) × Grows old new process act.Resume told
-ResumeGoes old new process (Still actor still) = (actor ≡ process) × (still ≡ script.Resume process) × (exit_refusal old process ≡ None) × (is_ready_in old process ≡ false) × (new ≡ old)
-ResumeGoes old new process (Refused actor refused refusal) = (actor ≡ process) × (refused ≡ script.Resume process) × ResumeRefused old process refusal × (new ≡ old)
+ResumeGoes old new process (Still actor still) = (actor ≡ process) × (still ≡ script.Resume process) × (exit_refusal old process ≡ None) ×
+    (is_ready_in old process ≡ false) × (new ≡ old)
+ResumeGoes old new process (Refused actor refused refusal) = (actor ≡ process) × (refused ≡ script.Resume process) × ResumeRefused old process refusal ×
+    (new ≡ old)
 ResumeGoes old new process other = ⊥
 
 -- what is told of an act of this actor that was recorded or refused

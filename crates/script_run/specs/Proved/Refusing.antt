@@ -41,7 +41,10 @@ exit_refusal s process = first_refusal ((not (is_here_in s process), NotHere) �
 -- the first refusal of a call: that; then that its process waits in a call; then that the run is full
 abbrev pub call_refusal : RunState → ℕ → Call → Option Refusal
 call_refusal s process call =
-    first_refusal ((not (is_here_in s process), NotHere) ∷ (is_parked (slot s.world.processes process), Waiting) ∷ (is_too_full s process (act.Call call), RunFull) ∷ [])
+    first_refusal ((not (is_here_in s process), NotHere) ∷ (is_parked (slot s.world.processes process), Waiting) ∷ (
+      is_too_full s process (act.Call call),
+      RunFull,
+    ) ∷ [])
 
 -- the first refusal of a resume: that of an exit; then, if its process waits in a call that is ready, that the run is full
 abbrev pub resume_refusal : RunState → ℕ → Option Refusal

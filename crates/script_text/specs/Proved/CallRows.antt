@@ -17,7 +17,12 @@ pub record Row : Type 0 where
 -- a row for each call
 abbrev pub call_rows : List Row
 call_rows =
-    record { line = codes "p7 open a%20b w,creat,nonblock"; byte = 16; call = calls.Open (codes "a b") (record { 0 = bit_or (bit_or writing creat) nonblocking }) } ∷
+    record {
+      line = codes "p7 open a%20b w,creat,nonblock";
+      byte = 16;
+      call =
+          calls.Open (codes "a b") (record { 0 = bit_or (bit_or writing creat) nonblocking });
+    } ∷
     record { line = codes "p7 close 3"; byte = 17; call = calls.Close (pos 3) } ∷
     record { line = codes "p7 read 3 5"; byte = 18; call = calls.Read (pos 3) 5 } ∷
     record { line = codes "p7 write 3 x6869"; byte = 19; call = calls.Write (pos 3) (codes "hi") } ∷

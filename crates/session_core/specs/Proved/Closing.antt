@@ -70,7 +70,8 @@ session_of source pushes o left = record {
 pub record LeavesAll (old new : OutputState) (found : Over) (left : LeftSession) : Type 0 where
   pub here : (base : Option (List ℕ)) (taken : List Request) → IsOverHere base (AreTaken taken) old found
       → ComesBy (AreTaken taken) (EndsAt (AreTaken taken)) base new.sink (result_ok left.seat) (with_last new.answers left.last) left.end
-  pub read : (base : Option (List ℕ)) (input : List ℕ) (source : LoggedReaderState) (pushes : PushState) → IsOver base input source old found → IsMet source pushes found → ComesTo input base (session_of source pushes new left)
+  pub read : (base : Option (List ℕ)) (input : List ℕ) (source : LoggedReaderState) (pushes : PushState) → IsOver base input source old found →
+      IsMet source pushes found → ComesTo input base (session_of source pushes new left)
 
 -- why no more is read, or taken up, of a session whose answers are all written
 abbrev pub IsOfReads : LeaveCause → Type 0

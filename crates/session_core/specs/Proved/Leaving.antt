@@ -33,4 +33,10 @@ last_at other = None
 
 -- what was answered of such a session
 abbrev pub answered_of : OutputState → TakingEnd → Standing → AnsweredState
-answered_of o ring standing = record { seat_is = seat_at standing; answers = with_last o.answers (last_at standing); end_is = end_at standing; ring = ring; writer = o.sink }
+answered_of o ring standing = record {
+  seat_is = seat_at standing;
+  answers = with_last o.answers (last_at standing);
+  end_is = end_at standing;
+  ring = ring;
+  writer = o.sink;
+}

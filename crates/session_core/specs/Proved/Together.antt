@@ -41,4 +41,12 @@ unread remaining = record { remaining = remaining; log = fresh_log }
 
 -- a session that has read nothing
 abbrev pub unserved_by : Option (Option (List ℕ)) → Option (List ℕ) → End → SessionState
-unserved_by remaining contents found = record { reader = option_map unread remaining; writer = record { contents = contents; log = fresh_log }; pushes = none_back; seat = None; answers = []; end_is = found }
+unserved_by remaining contents found = record {
+  reader = option_map unread remaining;
+  writer = record { contents = contents; log = fresh_log };
+  pushes =
+      none_back;
+  seat = None;
+  answers = [];
+  end_is = found;
+}

@@ -82,13 +82,16 @@ pub record IsUntold (base : Option (List ℕ)) (requests : List Request) (o : Ou
 abbrev pub OverBy : Option (List ℕ) → List Request → Request → OutputState → Over → Type 0
 OverBy base handled next o (over.Leaves stage why) = LeavesBy base handled next o stage why
 OverBy base handled next o (over.Unwritten stage) = Broke base o × HasReceipts stage o.answers × Converses (handled ++ next ∷ []) o.answers
-OverBy base handled next o (over.OpeningUntold seat) = (receipt : Receipted) × IsUntoldOpening base (handled ++ next ∷ []) o seat.receipts receipt × IsNoError receipt.record_is.outcome
-OverBy base handled next o (over.RefusalUntold seat) = (receipt : Receipted) × IsUntoldOpening base (handled ++ next ∷ []) o seat.receipts receipt × IsError receipt.record_is.outcome
+OverBy base handled next o (over.OpeningUntold seat) = (receipt : Receipted) × IsUntoldOpening base (handled ++ next ∷ []) o seat.receipts receipt × IsNoError
+    receipt.record_is.outcome
+OverBy base handled next o (over.RefusalUntold seat) = (receipt : Receipted) × IsUntoldOpening base (handled ++ next ∷ []) o seat.receipts receipt × IsError
+    receipt.record_is.outcome
 OverBy base handled next o (over.Untold seat receipt) = IsUntold base (handled ++ next ∷ []) o seat.receipts receipt
 OverBy base handled next o (over.Refused seat) = Holds base o × IsRefusedOpening seat o.answers × Talked (handled ++ next ∷ []) o.answers
 OverBy base handled next o (over.Lost seat why) = ⊥
 OverBy base handled next o (over.Ended seat why) = EndedBy base (handled ++ next ∷ []) o seat why
-OverBy base handled next o (over.Foreign seat) = Holds base o × (seat.receipts ≡ receipts_of o.answers) × IsCut (handled ++ next ∷ []) o.answers None × IsGranted seat.receipts
+OverBy base handled next o (over.Foreign seat) = Holds base o × (seat.receipts ≡ receipts_of o.answers) × IsCut
+    (handled ++ next ∷ []) o.answers None × IsGranted seat.receipts
 
 -- a call of the seat's process waits
 pub record IsWaitingAt (base : Option (List ℕ)) (handled : List Request) (call : Call) (seat : SeatState) (o : OutputState) : Type 0 where
@@ -117,7 +120,8 @@ TurnBy base handled next o (standing.Over over) = OverBy base handled next o ove
 
 -- a request is taken up
 abbrev pub TakesUp : Stage → Request → OutputState → OutputState → Turn → Type 0
-TakesUp stage next old new turn = (base : Option (List ℕ)) (handled : List Request) → Holds base old → IsTalking handled old.answers stage → TurnBy base handled next new turn
+TakesUp stage next old new turn = (base : Option (List ℕ)) (handled : List Request) → Holds base old → IsTalking handled old.answers stage →
+    TurnBy base handled next new turn
 
 -- the end that a refusal brings
 abbrev pub WhyRefused : Refusal → LeaveCause → Type 0
@@ -137,12 +141,14 @@ pub record PutsFirst (receipts : List Receipted) (old new : OutputState) : Type 
 
 -- one turn of a call that waits
 abbrev pub WaitsOnce : SeatState → OutputState → OutputState → Turn → Type 0
-WaitsOnce seat old new found = (base : Option (List ℕ)) (handled : List Request) (call : Call) → IsWaitingAt base handled call seat old → TurnBy base handled (request.Call call) new found
+WaitsOnce seat old new found = (base : Option (List ℕ)) (handled : List Request) (call : Call) → IsWaitingAt base handled call seat old →
+    TurnBy base handled (request.Call call) new found
 
 -- the process ends in a call that waits
 abbrev pub GivesUp : Ended → OutputState → OutputState → Turn → Type 0
 GivesUp ended old new found =
-    (base : Option (List ℕ)) (handled : List Request) (call : Call) (seat : SeatState) → IsWaitingAt base handled call seat old → EndsBy seat ended.seat ended.why → TurnBy base handled (request.Call call) new found
+    (base : Option (List ℕ)) (handled : List Request) (call : Call) (seat : SeatState) → IsWaitingAt base handled call seat old →
+    EndsBy seat ended.seat ended.why → TurnBy base handled (request.Call call) new found
 
 -- what is answered of the process of this seat, which has ended in the call that it waited in
 abbrev pub TellsWhy : SeatState → Why → OutputState → OutputState → Turn → Type 0
@@ -155,12 +161,14 @@ TellsWhy spent other old new found = ⊥
 -- requests are taken up: each refusal is said still
 abbrev pub TurnSays : (List Request → List Told → Refusal → Type 0) → Stage → List Request → OutputState → OutputState → Type 0
 TurnSays Said at next old new =
-    (base : Option (List ℕ)) (handled : List Request) → Holds base old → IsTalking handled old.answers at → AreSaid (Said handled) old.answers → AreSaid (Said (handled ++ next)) new.answers
+    (base : Option (List ℕ)) (handled : List Request) → Holds base old → IsTalking handled old.answers at → AreSaid (Said handled) old.answers →
+    AreSaid (Said (handled ++ next)) new.answers
 
 -- the same while a call waits
 abbrev pub WaitSays : (List Request → List Told → Refusal → Type 0) → SeatState → OutputState → OutputState → Type 0
 WaitSays Said seat old new =
-    (base : Option (List ℕ)) (handled : List Request) (call : Call) → IsWaitingAt base handled call seat old → AreSaid (Said (handled ++ request.Call call ∷ [])) old.answers
+    (base : Option (List ℕ)) (handled : List Request) (call : Call) → IsWaitingAt base handled call seat old →
+    AreSaid (Said (handled ++ request.Call call ∷ [])) old.answers
     → AreSaid (Said (handled ++ request.Call call ∷ [])) new.answers
 
 -- whether a call goes on waiting after an outcome

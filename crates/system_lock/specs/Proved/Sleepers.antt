@@ -70,15 +70,18 @@ opener b (request.Call call) = 0
 
 -- a call spares all whom it does not stir (own)
 abbrev pub CallsSpare : Type 0
-CallsSpare = (old new : BookState) (s t : SeatState) (call : Call) (told : Result Receipted Refusal) → CallsIn old new s t call told → SparesIn old new (stirred_told told (stirred_by (world_now old) s.pid call))
+CallsSpare = (old new : BookState) (s t : SeatState) (call : Call) (told : Result Receipted Refusal) → CallsIn old new s t call told →
+    SparesIn old new (stirred_told told (stirred_by (world_now old) s.pid call))
 
 -- a resume (own)
 abbrev pub ResumesSpare : Type 0
-ResumesSpare = (old new : BookState) (s t : SeatState) (receipt : Receipted) → Records old new s t act.Resume receipt → SparesIn old new (stirred_at s.pid (pipe_in old s.pid))
+ResumesSpare = (old new : BookState) (s t : SeatState) (receipt : Receipted) → Records old new s t act.Resume receipt →
+    SparesIn old new (stirred_at s.pid (pipe_in old s.pid))
 
 -- an opening (own)
 abbrev pub OpensSpare : Type 0
-OpensSpare = (old new : BookState) (request : Request) (told : Result Opened Refusal) → OpensIn old new request told → SparesIn old new (stirred.Anybody (opener old request))
+OpensSpare = (old new : BookState) (request : Request) (told : Result Opened Refusal) → OpensIn old new request told →
+    SparesIn old new (stirred.Anybody (opener old request))
 
 -- and an exit (own)
 abbrev pub ExitsSpare : Type 0

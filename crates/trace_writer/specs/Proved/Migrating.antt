@@ -66,7 +66,8 @@ BodyGives body text new (Some at) = Stops body text at
 pub record PassesOn (piece : List ℕ) (old new : MigrationState) (before after : List ℕ) (found : Option ℕ) : Type 0 where
   pub passed : List ℕ
   pub after_is : after ≡ before ++ passed
-  pub gives : (body text : List ℕ) → HasPassed body text old → length body + length piece + HEADER_2_LENGTH < 2 ^ 64 → BodyGives (body ++ piece) (text ++ passed) new found
+  pub gives : (body text : List ℕ) → HasPassed body text old → length body + length piece + HEADER_2_LENGTH < 2 ^ 64 →
+      BodyGives (body ++ piece) (text ++ passed) new found
 
 -- how many of so many bytes belong to whole frames, where so many bytes were before them and so many are held
 abbrev pub frames_length : Progress → ℕ → ℕ → ℕ → ℕ
@@ -101,7 +102,8 @@ IsFound input written new (Some at) = IsStopped input written at
 -- a piece more, of which this is to be written
 abbrev pub TakesPiece : List ℕ → MigrationState → MigrationState → List ℕ → Option ℕ → Type 0
 TakesPiece piece old new out found =
-    (input written : List ℕ) → IsMigrating input written old → length input + length piece + HEADER_2_LENGTH < 2 ^ 64 → IsFound (input ++ piece) (written ++ out) new found
+    (input written : List ℕ) → IsMigrating input written old → length input + length piece + HEADER_2_LENGTH < 2 ^ 64 →
+    IsFound (input ++ piece) (written ++ out) new found
 
 -- how many bytes were written
 abbrev pub sent_of : MigrationState → ℕ
@@ -153,5 +155,6 @@ pub record WritesRest (was is : LoggedWriterState) (m : MigrationState) (found :
   pub appends : Appends was.contents is.contents front
   pub few : WritesFew was.log is.log (length front) found
   pub own : TellsOwn found
-  pub goes : (reader : LoggedReaderState) (input written : List ℕ) → IsMigrating input written m → length input + HEADER_2_LENGTH < 2 ^ 64 → IsAtEnd reader.remaining
+  pub goes : (reader : LoggedReaderState) (input written : List ℕ) → IsMigrating input written m → length input + HEADER_2_LENGTH < 2 ^ 64 →
+      IsAtEnd reader.remaining
       → Becomes reader is input (written ++ front) found

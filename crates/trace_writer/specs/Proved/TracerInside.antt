@@ -12,7 +12,8 @@ use Rattle.trace_writer.specs.declared.traced.TraceFault.{TraceFault}
 use Rattle.trace_writer.specs.declared.traced.TraceFault.TheVariants as faults
 
 -- a front of the text was written, and unless something went wrong the rest is not written yet (own)
-pub record Writes (told : ToldLimits) (base now : Option (List ℕ)) (before after : ℕ) (unsent : List ℕ) (written : ℕ) (received : List Record) (fault : Option TraceFault) (is_torn is_sound : Bool) : Type 0 where
+pub record Writes (told : ToldLimits) (base now : Option (List ℕ)) (before after : ℕ) (unsent : List ℕ) (written : ℕ) (received : List Record)
+    (fault : Option TraceFault) (is_torn is_sound : Bool) : Type 0 where
   pub front : List ℕ
   pub rest : List ℕ
   pub appends : Appends base now front

@@ -27,7 +27,8 @@ pub record Flushes (old new : TracerState) : Type 0 where
 pub record MakesFrame (old new : List ℕ) (before after : Option TraceFault) (r : Record) : Type 0 where
   pub made : after ≡ None → (before ≡ None) × (new ≡ old ++ frame (record_bytes r)) × HasFrame r
   pub few : after ≡ None → length (frame (record_bytes r)) ≤ RECORD_FRAME_MAX
-  pub told : (after ≡ before) ⊎ ((before ≡ None) × (((after ≡ Some faults.NoMemory) × HasFrame r) ⊎ ((after ≡ Some faults.Unspellable) × BeginsUnspelled (r ∷ []))))
+  pub told : (after ≡ before) ⊎ ((before ≡ None) ×
+      (((after ≡ Some faults.NoMemory) × HasFrame r) ⊎ ((after ≡ Some faults.Unspellable) × BeginsUnspelled (r ∷ []))))
 
 -- the sink was synced, unless something went wrong before (own)
 pub record Syncs (old new : Option (List ℕ)) (counted counts : ℕ) (is_synced : Bool) (before after : Option TraceFault) : Type 0 where
@@ -44,7 +45,8 @@ pub record Keeps (old new : TracerState) (r : Record) : Type 0 where
   pub lost : new.is_torn ≡ true → new.received ≡ old.received
 
 -- what became of a trace, of which all records were kept unless memory ran out (own)
-pub record IsTraceOf (t : TracerState) (now : Option (List ℕ)) (after : ℕ) (is_synced : Bool) (whole bytes : ℕ) (fault : Option TraceFault) (received : List Record) : Type 0 where
+pub record IsTraceOf (t : TracerState) (now : Option (List ℕ)) (after : ℕ) (is_synced : Bool) (whole bytes : ℕ) (fault : Option TraceFault)
+    (received : List Record) : Type 0 where
   pub trace : IsTrace t.told t.base now t.before after is_synced whole bytes fault received
   pub received_is : received ≡ t.received
   pub torn : t.is_torn ≡ true → fault ≡ Some faults.NoMemory

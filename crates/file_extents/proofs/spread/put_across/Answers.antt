@@ -13,11 +13,13 @@ put_within-requires-2-clause-within c = rw c.cut-2.ensures (omega (arith, length
 
 pub put_within-requires-2-clause-room : goal.put_within-requires-2-clause-room
 put_within-requires-2-clause-room c =
-    room_goes c.args.table.now c.put_within.new.table c.args.start (length (span_bytes c.args.new)) (c.args.start + (65536 - c.args.start % 65536)) (length (span_bytes c.cut-2.result)) c.requires.room c.put_within.ensures.room (omega arith)
+    room_goes c.args.table.now c.put_within.new.table c.args.start (length (span_bytes c.args.new)) (c.args.start + (65536 - c.args.start % 65536))
+    (length (span_bytes c.cut-2.result)) c.requires.room c.put_within.ensures.room (omega arith)
     (rw c.cut-2.ensures (omega (arith, length-take {A = ℕ}, length-drop {A = ℕ})))
 
 pub returns : goal.returns
 returns c =
-    two_parts c.args.start (65536 - c.args.start % 65536) (span_bytes c.args.new) (chunk_at c.args.table.now) (chunk_at c.put_within.new.table) (chunk_at c.put_within-2.new.table) (omega arith)
+    two_parts c.args.start (65536 - c.args.start % 65536) (span_bytes c.args.new) (chunk_at c.args.table.now) (chunk_at c.put_within.new.table)
+    (chunk_at c.put_within-2.new.table) (omega arith)
     (rw c.cut.ensures at c.put_within.ensures)
     (rw (c.cut-2.ensures, behind_all (65536 - c.args.start % 65536) (span_bytes c.args.new) c.requires.few) at c.put_within-2.ensures)

@@ -12,7 +12,8 @@ use Rattle.frame_codec.proofs.KindLaws.{spells_none}
 use Rattle.frame_codec.proofs.RecordReads.{record_reads}
 use Rattle.frame_codec.proofs.laws.frames_as_written.Goals as goal
 
-no_record : (bytes : List ℕ) → told_length bytes ≤ 66048 → 4 + told_length bytes ≤ length bytes → payload_at record_at (told_payload bytes) ≡ None → IsMalformed SpellsRecord 66048 bytes
+no_record : (bytes : List ℕ) → told_length bytes ≤ 66048 → 4 + told_length bytes ≤ length bytes → payload_at record_at (told_payload bytes) ≡ None →
+    IsMalformed SpellsRecord 66048 bytes
 no_record bytes few there e = record { few = few; there = there; none = spells_none record_bytes RecordFits record_at record_reads (told_payload bytes) e }
 
 pub returns : goal.returns

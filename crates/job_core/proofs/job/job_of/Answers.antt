@@ -31,7 +31,8 @@ returns-in-Some-subcommand_matches-clause-job g c =
     let words : List Text = map g.S.AsStr.text c.args.words.now in
     let serve = c.in-Some-subcommand_matches in
     IfOk-weaker c.serve_job.result _ _
-    (λ job h. asked words c.in_ok-matches.matches serve.serve.now (codes "serve") job c.in_ok-matches.ensures.ok (serve.ensures.found.0 refl) serve.ensures.rows h)
+    (λ job h. asked words c.in_ok-matches.matches serve.serve.now (codes "serve") job c.in_ok-matches.ensures.ok (serve.ensures.found.0 refl) serve.ensures.rows
+    h)
     c.serve_job.ensures.job
 
 pub returns-in-Some-subcommand_matches-clause-fault : goal.returns-in-Some-subcommand_matches-clause-fault
@@ -39,7 +40,8 @@ returns-in-Some-subcommand_matches-clause-fault g c =
     let words : List Text = map g.S.AsStr.text c.args.words.now in
     let serve = c.in-Some-subcommand_matches in
     IfErr-weaker c.serve_job.result _ _
-    (λ fault h. refused words c.in_ok-matches.matches serve.serve.now (codes "serve") fault c.in_ok-matches.ensures.ok (serve.ensures.found.0 refl) serve.ensures.rows h)
+    (λ fault h. refused words c.in_ok-matches.matches serve.serve.now (codes "serve") fault c.in_ok-matches.ensures.ok
+    (serve.ensures.found.0 refl) serve.ensures.rows h)
     c.serve_job.ensures.fault
 
 pub audit_job-requires : goal.audit_job-requires
@@ -53,7 +55,8 @@ returns-in-Some-subcommand_matches-2-clause-job g c =
     let words : List Text = map g.S.AsStr.text c.args.words.now in
     let audit = c.in-Some-subcommand_matches-2 in
     IfOk-weaker c.audit_job.result _ _
-    (λ job h. asked words c.in_ok-matches.matches audit.audit.now (codes "audit") job c.in_ok-matches.ensures.ok (audit.ensures.found.0 refl) audit.ensures.rows h)
+    (λ job h. asked words c.in_ok-matches.matches audit.audit.now (codes "audit") job c.in_ok-matches.ensures.ok (audit.ensures.found.0 refl) audit.ensures.rows
+    h)
     c.audit_job.ensures.job
 
 pub returns-in-Some-subcommand_matches-2-clause-fault : goal.returns-in-Some-subcommand_matches-2-clause-fault
@@ -61,7 +64,8 @@ returns-in-Some-subcommand_matches-2-clause-fault g c =
     let words : List Text = map g.S.AsStr.text c.args.words.now in
     let audit = c.in-Some-subcommand_matches-2 in
     IfErr-weaker c.audit_job.result _ _
-    (λ fault h. refused words c.in_ok-matches.matches audit.audit.now (codes "audit") fault c.in_ok-matches.ensures.ok (audit.ensures.found.0 refl) audit.ensures.rows h)
+    (λ fault h. refused words c.in_ok-matches.matches audit.audit.now (codes "audit") fault c.in_ok-matches.ensures.ok
+    (audit.ensures.found.0 refl) audit.ensures.rows h)
     c.audit_job.ensures.fault
 
 pub show_job-requires : goal.show_job-requires
@@ -97,7 +101,8 @@ returns-in-Some-subcommand_matches-4-clause-job g c =
     let words : List Text = map g.S.AsStr.text c.args.words.now in
     let migrate = c.in-Some-subcommand_matches-4 in
     IfOk-weaker c.migrate_job.result _ _
-    (λ job h. asked words c.in_ok-matches.matches migrate.migrate.now (codes "migrate") job c.in_ok-matches.ensures.ok (migrate.ensures.found.0 refl) migrate.ensures.rows h)
+    (λ job h. asked words c.in_ok-matches.matches migrate.migrate.now (codes "migrate") job c.in_ok-matches.ensures.ok
+    (migrate.ensures.found.0 refl) migrate.ensures.rows h)
     c.migrate_job.ensures.job
 
 pub returns-in-Some-subcommand_matches-4-clause-fault : goal.returns-in-Some-subcommand_matches-4-clause-fault
@@ -105,7 +110,8 @@ returns-in-Some-subcommand_matches-4-clause-fault g c =
     let words : List Text = map g.S.AsStr.text c.args.words.now in
     let migrate = c.in-Some-subcommand_matches-4 in
     IfErr-weaker c.migrate_job.result _ _
-    (λ fault h. refused words c.in_ok-matches.matches migrate.migrate.now (codes "migrate") fault c.in_ok-matches.ensures.ok (migrate.ensures.found.0 refl) migrate.ensures.rows h)
+    (λ fault h. refused words c.in_ok-matches.matches migrate.migrate.now (codes "migrate") fault c.in_ok-matches.ensures.ok
+    (migrate.ensures.found.0 refl) migrate.ensures.rows h)
     c.migrate_job.ensures.fault
 
 pub returns-clause-job : goal.returns-clause-job
@@ -113,7 +119,8 @@ returns-clause-job g c =
     let words : List Text = map g.S.AsStr.text c.args.words.now in
     let outcomes = c.in-Some-subcommand_matches-5 in
     IfOk-weaker c.outcomes_job.result _ _
-    (λ job h. asked words c.in_ok-matches.matches outcomes.outcomes.now (codes "outcomes") job c.in_ok-matches.ensures.ok (outcomes.ensures.found.0 refl) outcomes.ensures.rows h)
+    (λ job h. asked words c.in_ok-matches.matches outcomes.outcomes.now (codes "outcomes") job c.in_ok-matches.ensures.ok
+    (outcomes.ensures.found.0 refl) outcomes.ensures.rows h)
     c.outcomes_job.ensures.job
 
 pub returns-clause-fault : goal.returns-clause-fault
@@ -121,7 +128,8 @@ returns-clause-fault g c =
     let words : List Text = map g.S.AsStr.text c.args.words.now in
     let outcomes = c.in-Some-subcommand_matches-5 in
     IfErr-weaker c.outcomes_job.result _ _
-    (λ fault h. refused_race words c.in_ok-matches.matches outcomes.outcomes.now fault c.in_ok-matches.ensures.ok (outcomes.ensures.found.0 refl) outcomes.ensures.rows h)
+    (λ fault h. refused_race words c.in_ok-matches.matches outcomes.outcomes.now fault c.in_ok-matches.ensures.ok
+    (outcomes.ensures.found.0 refl) outcomes.ensures.rows h)
     c.outcomes_job.ensures.fault
 
 -- the words name one of the six

@@ -19,8 +19,10 @@ returns-in_err-explored-clause-fault c =
     let lanes = c.in_ok-lanes.lanes in
     rw p.1
     (subst (IsUnsearched bounds c.args.most c.args.text.now) (sym p.2)
-    (too_large bounds lanes c.args.text.now c.in_ok-script.script c.in_ok-script.setup c.args.most c.in_err-explored.field-0.0 c.in_ok-script.ensures.ready (c.in_ok-lanes.ensures ∙ ap lanes_of c.all.ensures)
-    (subst (λ (w : World). GivesUp (move bounds lanes) (start_of lanes w) c.args.most c.in_err-explored.field-0.0) c.in_ok-world.ensures c.in_err-explored.ensures.fault)))
+    (too_large bounds lanes c.args.text.now c.in_ok-script.script c.in_ok-script.setup c.args.most c.in_err-explored.field-0.0 c.in_ok-script.ensures.ready
+    (c.in_ok-lanes.ensures ∙ ap lanes_of c.all.ensures)
+    (subst (λ (w : World). GivesUp (move bounds lanes) (start_of lanes w) c.args.most c.in_err-explored.field-0.0) c.in_ok-world.ensures
+    c.in_err-explored.ensures.fault)))
 
 pub returns-clause-search : goal.returns-clause-search
 returns-clause-search c =
@@ -35,5 +37,6 @@ returns-clause-search c =
       lanes_are = c.in_ok-lanes.ensures ∙ ap lanes_of c.all.ensures;
       all = all;
       told = subst (λ (calls : List RaceCall). AreTold bounds calls world (texts c.in_ok-told.told.items)) c.all-2.ensures (c.in_ok-told.ensures.all world all);
-      at = subst (λ (calls : List RaceCall). All (IsToldAt (move bounds lanes) c.in_ok-explored.explored.met calls) c.in_ok-told.told.items) c.all-2.ensures c.in_ok-told.ensures.places;
+      at = subst (λ (calls : List RaceCall). All (IsToldAt (move bounds lanes) c.in_ok-explored.explored.met calls) c.in_ok-told.told.items) c.all-2.ensures
+          c.in_ok-told.ensures.places;
     }

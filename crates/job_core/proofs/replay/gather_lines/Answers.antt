@@ -19,5 +19,6 @@ returns-in_err-write_totals-clause-fault c =
     rw p.1 (faults.NoMemory, p.2, tt)
 
 pub returns-clause-lines : goal.returns-clause-lines
-returns-clause-lines c = run_ends c.args.script.now.read c.args.run.now c.run_all.new.run c.in_ok-lines.lines.items c.run_all.new.lines.items c.write_totals.new.out.items c.counts-counts.result
+returns-clause-lines c = run_ends c.args.script.now.read c.args.run.now c.run_all.new.run c.in_ok-lines.lines.items c.run_all.new.lines.items
+    c.write_totals.new.out.items c.counts-counts.result
     c.in_ok-run_all.ensures.ok c.in_ok-lines.ensures.items c.counts-counts.ensures c.in_ok-write_totals.ensures

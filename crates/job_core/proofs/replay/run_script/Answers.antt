@@ -14,4 +14,5 @@ pub returns-clause-lines : goal.returns-clause-lines
 returns-clause-lines c =
     rw c.leaked_if_ok.ensures (
     IfOk-weaker c.gather_lines-gathered.result _ _
-    (λ lines h. output_of c.args.limits c.args.text.now c.in_ok-script.script.read c.in_ok-run.run' lines.items h c.in_ok-script.ensures.opened.1 c.in_ok-run.ensures.fits) c.gather_lines-gathered.ensures.lines)
+    (λ lines h. output_of c.args.limits c.args.text.now c.in_ok-script.script.read c.in_ok-run.run' lines.items h c.in_ok-script.ensures.opened.1
+    c.in_ok-run.ensures.fits) c.gather_lines-gathered.ensures.lines)

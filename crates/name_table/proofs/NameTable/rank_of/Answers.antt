@@ -11,5 +11,7 @@ returns-clause-rank c =
     let name = c.args.name.now in
     let facts = c.partition_point.ensures in
     let named : IsNamed c.deref.result.now = rw c.deref.ensures.value c.self.invariant in
-    let by_name = facts.partitioned (λ e. is_gt (slice_cmp nat_cmp name e.0)) (always_returns_same _ _ _ (λ a r f k. search (rules, of_calls))) (partitioned name c.deref.result.now named) in
-    rw (← c.self.view_is, ← c.deref.ensures.value) (sym (prefix_parted (λ (e : List ℕ × ℕ). is_gt (slice_cmp nat_cmp name e.0)) c.deref.result.now c.partition_point.result facts.bound by_name))
+    let by_name = facts.partitioned (λ e. is_gt (slice_cmp nat_cmp name e.0)) (always_returns_same _ _ _ (λ a r f k. search (rules, of_calls)))
+    (partitioned name c.deref.result.now named) in
+    rw (← c.self.view_is, ← c.deref.ensures.value) (sym
+    (prefix_parted (λ (e : List ℕ × ℕ). is_gt (slice_cmp nat_cmp name e.0)) c.deref.result.now c.partition_point.result facts.bound by_name))

@@ -30,7 +30,8 @@ returns-clause-file c =
     let place = c.in_ok-place.place in
     let has : HasName name es place = search rules in
     let entry = c.remove.result in
-    rw (← c.self.view_is) (sym ((place_found name es place entry c.self.invariant has.within (has.has entry)).0 ∙ ap (λ e. Some e.1) (sym c.remove.ensures.value)))
+    rw (← c.self.view_is) (sym ((place_found name es place entry c.self.invariant has.within (has.has entry)).0 ∙
+    ap (λ e. Some e.1) (sym c.remove.ensures.value)))
 
 pub returns-clause-links : goal.returns-clause-links
 returns-clause-links c =
@@ -39,5 +40,6 @@ returns-clause-links c =
     let has : HasName c.args.name.now es place = search rules in
     let items : c.remove.new.self.items ≡ remove es place = search rules in
     let entry = c.remove.result in
-    rw (← c.self.view_is) (λ other. rw items (subst (λ (e : List ℕ × ℕ). count_by (λ x. x.1 == other) (remove es place) + cond (e.1 == other) 1 0 ≡ count_by (λ x. x.1 == other) es) (sym c.remove.ensures.value)
+    rw (← c.self.view_is) (λ other. rw items (subst (λ (e : List ℕ × ℕ). count_by (λ x. x.1 == other) (remove es place) + cond (e.1 == other) 1 0 ≡ count_by
+    (λ x. x.1 == other) es) (sym c.remove.ensures.value)
     (links_removed es place other entry has.within)))

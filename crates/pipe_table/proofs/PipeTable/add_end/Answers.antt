@@ -9,5 +9,6 @@ returns-clause-slots c =
     let used = c.value_mut-used.result.now in
     let more = with_value (with_end c.args.mode) in
     rw (← c.self.view_is)
-    (edited_as c.self.inside.pipes.0 c.args.pipe (λ x. one_more (more x)) used _ c.value_mut-used.ensures.value (ap (λ pipe. record used { value = pipe; uses = used.uses + 1 }) c.add_end.ensures) ∙
+    (edited_as c.self.inside.pipes.0 c.args.pipe (λ x. one_more (more x)) used _ c.value_mut-used.ensures.value
+    (ap (λ pipe. record used { value = pipe; uses = used.uses + 1 }) c.add_end.ensures) ∙
     sym (edited_twice c.self.inside.pipes.0 c.args.pipe one_more more))

@@ -14,21 +14,26 @@ returns-clause-slots c =
     let used = c.value_mut.result.now in
     let ring = c.reserve.new.self in
     let more = with_value (with_block ring.block) in
-    let same = ap (λ r. record used { value = record used.value { ring = r } }) (other_block used.value.ring ring c.reserve.ensures.bytes c.reserve.ensures.capacity) in
+    let same = ap (λ r. record used { value = record used.value { ring = r } })
+    (other_block used.value.ring ring c.reserve.ensures.bytes c.reserve.ensures.capacity) in
     rw (← c.self.view_is) (ring.block, edited_as c.self.inside.pipes.0 c.args.pipe more used _ c.value_mut.ensures.value same)
 
 pub returns-clause-places : goal.returns-clause-places
 returns-clause-places c =
     let used = c.value_mut.result.now in
     let more = record used { value = record used.value { ring = c.reserve.new.self } } in
-    on_ok_weaker c.reserve.result (λ places. (more, set_there c.self.inside.pipes.0 c.args.pipe used more c.value_mut.ensures.value, places)) c.reserve.ensures.places
+    on_ok_weaker c.reserve.result (λ places. (more, set_there c.self.inside.pipes.0 c.args.pipe used more c.value_mut.ensures.value, places))
+    c.reserve.ensures.places
 
 pub returns-clause-kept : goal.returns-clause-kept
 returns-clause-kept c =
     let used = c.value_mut.result.now in
     let ring = c.reserve.new.self in
     let pipes = c.self.inside.pipes.0 in
-    let same = ap (λ r. record used { value = record used.value { ring = r } }) (other_block used.value.ring ring c.reserve.ensures.bytes c.reserve.ensures.capacity) in
-    let made = edited_as pipes c.args.pipe (with_value (with_block ring.block)) used (record used { value = record used.value { ring = ring } }) c.value_mut.ensures.value same in
-    let keeps : block_in (value_at (slot pipes c.args.pipe)) ≤ ring.block = rw (ap (λ x. block_in (value_at x)) c.value_mut.ensures.value) c.reserve.ensures.kept in
+    let same = ap (λ r. record used { value = record used.value { ring = r } })
+    (other_block used.value.ring ring c.reserve.ensures.bytes c.reserve.ensures.capacity) in
+    let made = edited_as pipes c.args.pipe (with_value (with_block ring.block)) used (record used { value = record used.value { ring = ring } })
+    c.value_mut.ensures.value same in
+    let keeps : block_in (value_at (slot pipes c.args.pipe)) ≤ ring.block =
+    rw (ap (λ x. block_in (value_at x)) c.value_mut.ensures.value) c.reserve.ensures.kept in
     rw (← c.self.view_is, made) (blocks_kept ring.block pipes c.args.pipe keeps)

@@ -5,4 +5,8 @@ use Rattle.posix_model.proofs.PipeLaws.{bytes_of_pipe, small_writes_unbroken}
 use Rattle.posix_model.proofs.pipe_laws.bytes_of_pipe.Goals as goal
 
 pub returns : goal.returns
-returns c = record { bytes = bytes_of_pipe acts_are_sound step_keeps_whole step_keeps_waits; small = small_writes_unbroken acts_are_sound step_keeps_whole step_keeps_waits }
+returns c = record {
+  bytes = bytes_of_pipe acts_are_sound step_keeps_whole step_keeps_waits;
+  small =
+      small_writes_unbroken acts_are_sound step_keeps_whole step_keeps_waits;
+}

@@ -15,8 +15,10 @@ loop-first-preserved c =
     let here = span_bytes c.cut-here.result in
     let part : here ≡ bytes_at x skip left = rw c.span-all.ensures at c.cut-here.ensures in
     let fewer : left - c.len-left.result ≡ left - length here = ap (λ k. left - k) c.len-left.ensures in
-    let skipped : c.saturating_sub-skip.result ≡ skip - length x = c.saturating_sub-skip.ensures ∙ ap (λ k. skip - k) (c.len.ensures ∙ ap length c.span-all.ensures) in
+    let skipped : c.saturating_sub-skip.result ≡ skip - length x = c.saturating_sub-skip.ensures ∙
+    ap (λ k. skip - k) (c.len.ensures ∙ ap length c.span-all.ensures) in
     record {
-      bytes = next_part file c.append.new.self here x y _ skip left _ _ (rw c.in-Some.ensures.cases.0 at c.loop-first.invariant.bytes) part c.in_ok-append.ensures skipped fewer;
+      bytes = next_part file c.append.new.self here x y _ skip left _ _ (rw c.in-Some.ensures.cases.0 at c.loop-first.invariant.bytes) part
+          c.in_ok-append.ensures skipped fewer;
       fits = next_fits file c.append.new.self here x skip left _ _ c.loop-first.invariant.fits part c.in_ok-append.ensures fewer;
     }

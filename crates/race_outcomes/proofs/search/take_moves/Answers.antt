@@ -11,10 +11,13 @@ take_move-requires-clause-within c =
     let now = c.loop-lane.search in
     let old = c.args.search.now in
     subst (λ n. c.args.place < n) (as_many now.worlds now.rows now.met)
-    (still_within (met_in old) (met_in now) c.args.place c.loop-lane.invariant.0.kept (subst (λ n. c.args.place < n) (sym (as_many old.worlds old.rows old.met)) c.requires.within))
+    (still_within (met_in old) (met_in now) c.args.place c.loop-lane.invariant.0.kept
+    (subst (λ n. c.args.place < n) (sym (as_many old.worlds old.rows old.met)) c.requires.within))
 
 pub returns-clause-ok : goal.returns-clause-ok
 returns-clause-ok c =
     let old = c.args.search.now in
-    all_below (move c.args.race.now.limits.bounds c.args.race.now.lanes) c.args.most c.args.place (length c.args.race.now.lanes) (met_in old) (met_in c.loop-lane.search) c.loop-lane.moved
-    (subst (λ n. c.args.place < n) (sym (as_many old.worlds old.rows old.met)) c.requires.within) (move_past c.args.race.now.limits.bounds c.args.race.now.lanes) (search rules)
+    all_below (move c.args.race.now.limits.bounds c.args.race.now.lanes) c.args.most c.args.place (length c.args.race.now.lanes) (met_in old)
+    (met_in c.loop-lane.search) c.loop-lane.moved
+    (subst (λ n. c.args.place < n) (sym (as_many old.worlds old.rows old.met)) c.requires.within)
+    (move_past c.args.race.now.limits.bounds c.args.race.now.lanes) (search rules)

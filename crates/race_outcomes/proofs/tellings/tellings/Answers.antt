@@ -17,8 +17,11 @@ returns c =
     subst (λ ends. SaidAll c.args.calls.now c.all-2.result.now c.args.explored.now.met ends c.in_ok-told.told.items) c.ends.ensures c.in_ok-told.ensures in
     let seated : c.all-2.result.now ≡ seats_from c.args.race.now.lanes [] c.args.calls.now = search rules in
     record {
-      all = λ world. are_told c.args.race.now.limits.bounds c.args.race.now.lanes c.args.calls.now world c.args.explored.now c.all-2.result.now c.in_ok-told.told.items c.put_in_order.new.told.items
+      all = λ world. are_told c.args.race.now.limits.bounds c.args.race.now.lanes c.args.calls.now world c.args.explored.now c.all-2.result.now
+          c.in_ok-told.told.items c.put_in_order.new.told.items
           c.requires.lanes seated said c.put_in_order.ensures.sound c.put_in_order.ensures.kept c.put_in_order.ensures.rising;
-      places = all_at_ends (move c.args.race.now.limits.bounds c.args.race.now.lanes) c.args.explored.now c.args.calls.now c.all-2.result.now c.in_ok-told.told.items c.put_in_order.new.told.items
-          c.requires.ends (subst (λ lanes. c.all-2.result.now ≡ seats_from lanes [] c.args.calls.now) c.requires.lanes seated) said c.put_in_order.ensures.sound;
+      places = all_at_ends (move c.args.race.now.limits.bounds c.args.race.now.lanes) c.args.explored.now c.args.calls.now c.all-2.result.now
+          c.in_ok-told.told.items c.put_in_order.new.told.items
+          c.requires.ends (subst (λ lanes. c.all-2.result.now ≡ seats_from lanes [] c.args.calls.now) c.requires.lanes seated) said
+          c.put_in_order.ensures.sound;
     }

@@ -8,7 +8,8 @@ returns-in-Err-clause-pumps g c = laws.unread _ _ _ _ _ _ _ c.new-source.ensures
 
 pub returns-clause-pumps : goal.returns-clause-pumps
 returns-clause-pumps g c =
-    laws.pumps _ _ _ _ _ _ _ _ _ _ _ (ap (λ (r : LoggedReaderState). r.remaining) c.new-source.ensures) c.new-ring.ensures.producer c.pump_often-end.ensures.ring c.pump_often-end.ensures.pumps c.pump_often-end.ensures.rings c.pump_often-end.ensures.few
+    laws.pumps _ _ _ _ _ _ _ _ _ _ _ (ap (λ (r : LoggedReaderState). r.remaining) c.new-source.ensures) c.new-ring.ensures.producer
+    c.pump_often-end.ensures.ring c.pump_often-end.ensures.pumps c.pump_often-end.ensures.rings c.pump_often-end.ensures.few
     (search rules) c.ended-2.ensures
 
 pub returns-clause-rings : goal.returns-clause-rings

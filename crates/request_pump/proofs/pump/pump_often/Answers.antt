@@ -32,4 +32,5 @@ loop-turn-preserved g c = record {
 }
 
 pub returns-clause-pumps : goal.returns-clause-pumps
-returns-clause-pumps g c = laws.pumped_enough c.cuts_do_not_matter.ensures.requests _ _ _ _ _ _ c.loop-turn.invariant.pumped (inr (omega (arith, c.loop-turn.invariant.calls)))
+returns-clause-pumps g c = laws.pumped_enough c.cuts_do_not_matter.ensures.requests _ _ _ _ _ _ c.loop-turn.invariant.pumped
+    (inr (omega (arith, c.loop-turn.invariant.calls)))

@@ -24,6 +24,8 @@ returns-in_err-all_agree-clause-fault g c =
     let received = map arc_value c.args.traced.now.received.items in
     let whole : seats_given book ≤ c.args.shares + 1 = (let enough = c.if-shares-seats.false in let given = c.seats.ensures in omega (arith, enough, given)) in
     let p = err_from_is_err_and c.from_residual-in_err-all_agree.result c.from_residual-in_err-all_agree.ensures.1 in
-    rw (p.1, p.2) (unreported_for book (c.args.shares + 1) held c.args.traced.now.fault received c.len.result c.in_ok-least.least c.in_err-all_agree.field-0.0 whole c.len.ensures
-    (λ place is. subst (λ (rs : List Record). IsLeast book.history held rs place) (ap (map arc_value) c.as_slice.ensures.value) (c.in_ok-least.ensures.least place is))
+    rw (p.1, p.2) (unreported_for book (c.args.shares + 1) held c.args.traced.now.fault received c.len.result c.in_ok-least.least c.in_err-all_agree.field-0.0
+    whole c.len.ensures
+    (λ place is. subst (λ (rs : List Record). IsLeast book.history held rs place) (ap (map arc_value) c.as_slice.ensures.value)
+    (c.in_ok-least.ensures.least place is))
     c.in_err-all_agree.ensures.fault)

@@ -14,4 +14,5 @@ pub returns-clause-least : goal.returns-clause-least
 returns-clause-least g c =
     let alone = seats_alone c.args.seats.now c.as_slice.result.now c.args.seats.now refl (c.as_slice.ensures.value ∙ c.new-others.ensures.items) in
     let held = map held_in c.args.seats.now ++ map held_in c.as_slice.result.now in
-    λ place is. told_place c.args.book.now.history held _ (map arc_value c.args.received.now) c.in_ok-least.least place alone is c.in_ok-least.ensures.agree c.in_ok-least.ensures.broken
+    λ place is. told_place c.args.book.now.history held _ (map arc_value c.args.received.now) c.in_ok-least.least place alone is c.in_ok-least.ensures.agree
+    c.in_ok-least.ensures.broken

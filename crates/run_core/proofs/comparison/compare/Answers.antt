@@ -15,7 +15,8 @@ pub returns-clause-broken : goal.returns-clause-broken
 returns-clause-broken g c =
     let held = map g.T.HasReceipts.held c.args.holders.now ++ map g.U.HasReceipts.held c.args.others.now in
     let received = map arc_value c.args.received.now in
-    neither_holds _ _ _ (λ q. IsSound c.args.book.now.history held q) (λ q. IsReceivedAt c.args.book.now.history received q) (λ q. Agrees c.args.book.now.history held received q) (λ q. IsBefore q c.in_ok-unsound.unsound)
+    neither_holds _ _ _ (λ q. IsSound c.args.book.now.history held q) (λ q. IsReceivedAt c.args.book.now.history received q)
+    (λ q. Agrees c.args.book.now.history held received q) (λ q. IsBefore q c.in_ok-unsound.unsound)
     (λ q all. all.sound) (λ q all. all.received_is) c.lowest.ensures.either c.in_ok-unsound.ensures.broken c.first_difference.ensures.differs
 
 pub returns-clause-decided : goal.returns-clause-decided

@@ -24,5 +24,6 @@ returns-clause-decided g c = λ p below.
     let long : length (map arc_value c.args.received.now) ≡ length c.args.received.now = length-map c.args.received.now arc_value in
     elim (cases_lt p c.max-place-end.result) [
       | inl before ↦ c.loop-place.invariant.1 p (omega (arith, before))
-      | inr past ↦ subst (λ (o : Option Record). IfSome o FlagsDecide) (sym (slice_get_past (map arc_value c.args.received.now) p (omega (arith, long, most, past)))) tt
+      | inr past ↦ subst (λ (o : Option Record). IfSome o FlagsDecide)
+          (sym (slice_get_past (map arc_value c.args.received.now) p (omega (arith, long, most, past)))) tt
     ]

@@ -19,5 +19,6 @@ loop-receipt-preserved-then-not-mark_one c =
       twice = still_twice c.loop-receipt.least c.args.least c.lower.result c.place-place.result
           (λ q. wanted (length c.args.marks.now) q) (λ q. slice_index c.args.marks.now q + names q c.args.receipts.now)
           c.lower.ensures.one before.twice before.lower
-          (λ below. more_than_wanted _ _ c.place-place.result _ _ _ _ before.len refused.1 (before.marked _ below) (named_once _ _ _ _ is c.place-place.ensures));
+          (λ below. more_than_wanted _ _ c.place-place.result _ _ _ _ before.len refused.1 (before.marked _ below)
+          (named_once _ _ _ _ is c.place-place.ensures));
     }

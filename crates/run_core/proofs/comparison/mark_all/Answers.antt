@@ -14,7 +14,8 @@ loop-holder-preserved g c =
     record {
       len = marked.len ∙ before.len;
       ones = λ first. marked.ones (before.ones first);
-      marked = λ p below. let one = marked.marked p below in let all = before.marked p (marked.lower p below) in let parts = seat_names p _ _ _ _ is given in omega (arith, one, all, parts);
+      marked = λ p below. let one = marked.marked p below in let all = before.marked p (marked.lower p below) in let parts = seat_names p _ _ _ _ is given in
+          omega (arith, one, all, parts);
       lower = λ p below. before.lower p (marked.lower p below);
       twice = too_often c.loop-holder.least c.args.least c.mark-least.result _ _ (λ q. slice_index c.loop-holder.marks q + names q c.receipts.result.now)
           (λ q. slice_index c.args.marks.now q + named q (map g.T.HasReceipts.held c.args.holders.now)) before.len marked.twice

@@ -12,7 +12,9 @@ invariant-loop-thread g l = record {
   count : vec_len l.sessions + into_iter_len l.thread-iterator ≡ vec_len l.fn.running;
   room : vec_len l.sessions + into_iter_len l.thread-iterator ≤ vec_capacity l.sessions;
   shares_room : vec_len l.shares + into_iter_len l.thread-iterator ≤ vec_capacity l.shares;
-  joined : Since l.front (λ h. IsJoined g.L.Ledgers.limits h g.G.Gate.is_open (map (λ thread. streams (g.R.Read.remaining thread.promise.reader.value) (g.W.Write.contents thread.promise.writer.value)) l.yielded) l.sessions.items l.shares.items);
+  joined : Since l.front (λ h. IsJoined g.L.Ledgers.limits h g.G.Gate.is_open
+      (map (λ thread. streams (g.R.Read.remaining thread.promise.reader.value) (g.W.Write.contents thread.promise.writer.value)) l.yielded) l.sessions.items
+      l.shares.items);
   starts : g.T.Starter.failures l.starter ≡ failures_with l.sessions.items (g.T.Starter.failures l.fn.starter);
   shut : AreShut g.W.Connection.was_shut l.sessions.items;
   goes : (goal.iterator-loop-thread g).can_next l.thread-iterator;

@@ -39,7 +39,8 @@ returns-clause-run g c =
         fault = report.traced.fault;
       };
     })
-    g.L.Ledgers.limits c.serve_all-ended.result.want c.serve_all-ended.result.closed.book c.serve_all-ended.result.closed.house c.serve_all-ended.result.parted.sessions.items c.serve_all-ended.result.parted.shares.items (map arc_value done.traced.received.items)
+    g.L.Ledgers.limits c.serve_all-ended.result.want c.serve_all-ended.result.closed.book c.serve_all-ended.result.closed.house
+    c.serve_all-ended.result.parted.sessions.items c.serve_all-ended.result.parted.shares.items (map arc_value done.traced.received.items)
     (record {
       base = g.K.Sink.contents c.args.traces.thread.promise.sink.value;
       now = g.K.Sink.contents done.sink;
@@ -85,9 +86,11 @@ returns-in_err-report-clause-unreported g c =
       house = ended.closed.house;
     } in
     let fault = c.in_err-report.field-0.0.fault in
-    let reason = subst (λ (n : ℕ). UnreportedFor told.book (n + 1) (held_of told) told.trace.fault told.received fault) ended.parted.shares.ok.0 c.in_err-report.ensures.fault in
+    let reason = subst (λ (n : ℕ). UnreportedFor told.book (n + 1) (held_of told) told.trace.fault told.received fault) ended.parted.shares.ok.0
+    c.in_err-report.ensures.fault in
     let p = err_from_is_err_and c.from_residual.result c.from_residual.ensures.1 in
-    rw (p.1, p.2, c.in_err-report.ensures.left) (left_is told fault g.L.Ledgers.limits ended.want ended.parted.shares.items c.requires.limits c.serve_all-ended.ensures.ended (rw c.requires.traced at c.join-done.ensures) c.in_err-report.ensures.want reason)
+    rw (p.1, p.2, c.in_err-report.ensures.left) (left_is told fault g.L.Ledgers.limits ended.want ended.parted.shares.items c.requires.limits
+    c.serve_all-ended.ensures.ended (rw c.requires.traced at c.join-done.ensures) c.in_err-report.ensures.want reason)
 
 pub returns-in_err-report-clause-lost : goal.returns-in_err-report-clause-lost
 returns-in_err-report-clause-lost g c =
@@ -99,14 +102,16 @@ returns-clause-started g c =
     let told = c.in_ok-report.ensures in
     let before = g.T.Starter.failures c.args.starter.now in
     let after = g.T.Starter.failures c.serve_all-ended.new.starter in
-    let starts = subst (λ (lacked : Option Want). after ≡ failures_with c.serve_all-ended.result.parted.sessions.items (failures_for lacked before)) told.whole c.serve_all-ended.ensures.starts in
+    let starts = subst (λ (lacked : Option Want). after ≡ failures_with c.serve_all-ended.result.parted.sessions.items (failures_for lacked before)) told.whole
+    c.serve_all-ended.ensures.starts in
     rw told.ends.0 starts
 
 pub returns-in_err-report-clause-unstarted : goal.returns-in_err-report-clause-unstarted
 returns-in_err-report-clause-unstarted g c =
     let before = g.T.Starter.failures c.args.starter.now in
     let p = err_from_is_err_and c.from_residual.result c.from_residual.ensures.1 in
-    rw (p.1, p.2, c.in_err-report.ensures.left) (c.serve_all-ended.ensures.starts ∙ ap (λ (n : ℕ). failures_with c.serve_all-ended.result.parted.sessions.items n) (c.in_err-report.ensures.wanted before))
+    rw (p.1, p.2, c.in_err-report.ensures.left) (c.serve_all-ended.ensures.starts ∙
+    ap (λ (n : ℕ). failures_with c.serve_all-ended.result.parted.sessions.items n) (c.in_err-report.ensures.wanted before))
 
 pub returns-clause-spelled : goal.returns-clause-spelled
 returns-clause-spelled g c =

@@ -13,7 +13,9 @@ loop-session-preserved g c =
       failures = c.in-Ok.ensures.failures ∙ before.failures;
       accepted = let all = before.accepted in let one = c.in-Ok.ensures.accepted in omega arith;
       starts = c.in-Ok.ensures.started ∙ before.starts;
-      gives = gives_next (λ thread. streams (g.S.Reader.Read.remaining thread.promise.reader.value) (g.S.Writer.Write.contents thread.promise.writer.value)) (g.S.Source.coming c.args.source.now) (g.S.Source.coming c.loop-session.source) (g.S.Source.coming c.next_session.new.source) c.loop-session.running.items _ c.in-Ok.session before.gives c.in-Ok.ensures.next c.push_reserved.ensures.items;
+      gives = gives_next (λ thread. streams (g.S.Reader.Read.remaining thread.promise.reader.value) (g.S.Writer.Write.contents thread.promise.writer.value))
+          (g.S.Source.coming c.args.source.now) (g.S.Source.coming c.loop-session.source) (g.S.Source.coming c.next_session.new.source)
+          c.loop-session.running.items _ c.in-Ok.session before.gives c.in-Ok.ensures.next c.push_reserved.ensures.items;
       running = let all = before.running in omega arith;
       room = let room = before.room in omega arith;
     }

@@ -8,7 +8,8 @@ invariant-loop-session g l = record {
   failures : g.S.Source.failures l.source ≡ g.S.Source.failures l.fn.source;
   accepted : g.S.Source.accepted l.source ≡ g.S.Source.accepted l.fn.source + l.session;
   starts : g.T.Starter.failures l.starter ≡ g.T.Starter.failures l.fn.starter;
-  gives : GivesConnections (g.S.Source.coming l.fn.source) (g.S.Source.coming l.source) (map (λ thread. streams (g.S.Reader.Read.remaining thread.promise.reader.value) (g.S.Writer.Write.contents thread.promise.writer.value)) l.running.items);
+  gives : GivesConnections (g.S.Source.coming l.fn.source) (g.S.Source.coming l.source)
+      (map (λ thread. streams (g.S.Reader.Read.remaining thread.promise.reader.value) (g.S.Writer.Write.contents thread.promise.writer.value)) l.running.items);
   running : vec_len l.running ≡ l.session;
   room : l.fn.sessions ≤ vec_capacity l.running;
 }

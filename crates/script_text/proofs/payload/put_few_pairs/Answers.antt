@@ -21,9 +21,11 @@ loop-byte-preserved c =
     let i : _ = c.loop-byte.byte-index in
     let bytes : _ = c.args.bytes.now in
     let b : ℕ = get_or bytes i 0 in
-    let two : _ = take-two_writes digits c.loop-byte.end (get_or pair 0 0) (get_or pair 1 0) (omega (arith, c.loop-byte.invariant.end, c.loop-byte.invariant.room, c.loop-byte-test.true, c.requires.few)) in
+    let two : _ = take-two_writes digits c.loop-byte.end (get_or pair 0 0) (get_or pair 1 0)
+    (omega (arith, c.loop-byte.invariant.end, c.loop-byte.invariant.room, c.loop-byte-test.true, c.requires.few)) in
     record {
       end = omega (arith, c.loop-byte.invariant.end);
       room = omega (arith, length-set {A = ℕ}, c.loop-byte.invariant.room);
-      front = two ∙ (ap (λ (ds : List ℕ). take c.loop-byte.end digits ++ ds) (both pair b c.hex_digits.ensures) ∙ (ap (λ (ds : List ℕ). ds ++ hex_pair b) c.loop-byte.invariant.front ∙ grown bytes i c.loop-byte-test.true));
+      front = two ∙ (ap (λ (ds : List ℕ). take c.loop-byte.end digits ++ ds) (both pair b c.hex_digits.ensures) ∙
+          (ap (λ (ds : List ℕ). ds ++ hex_pair b) c.loop-byte.invariant.front ∙ grown bytes i c.loop-byte-test.true));
     }

@@ -11,5 +11,6 @@ decreases-loop-left l = left_size (option_copied l.left)
 abbrev pub invariant-loop-left : goal.invariant-loop-left
 invariant-loop-left l = record {
   few : l.number + left_size (option_copied l.left) ≤ SCRIPT_MAX + 1;
-  same : followed l.calls (lines_calls (l.number + 1) (left_lines (option_copied l.left))) ≡ lines_calls (l.fn.lines + 1) (left_lines (option_copied l.fn.rest));
+  same : followed l.calls (lines_calls (l.number + 1) (left_lines (option_copied l.left))) ≡ lines_calls (l.fn.lines + 1)
+      (left_lines (option_copied l.fn.rest));
 }

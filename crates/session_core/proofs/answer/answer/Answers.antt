@@ -9,7 +9,8 @@ pub returns-clause-answers : goal.returns-clause-answers
 returns-clause-answers g c h p =
     let base = g.W.Write.contents c.args.writer in
     let fresh = fresh_stands (g.K.Kernel.says h) base (received c.args.ring) c.in-Ok.output c.args.admission c.requires.fresh c.in-Ok.ensures.ok in
-    let let_through = λ (always : g.G.Gate.is_open ≡ true). subst (λ (s : AnsweredState). s.writer.log.refusals ≡ 0) c.answered_by.ensures.is (c.answered_by.ensures.let_through always) in
+    let let_through = λ (always : g.G.Gate.is_open ≡ true). subst (λ (s : AnsweredState). s.writer.log.refusals ≡ 0) c.answered_by.ensures.is
+    (c.answered_by.ensures.let_through always) in
     subst (AnswersRing (g.K.Kernel.says h) g.G.Gate.is_open base) (sym c.answered_by.ensures.is)
     (answers_ring (g.K.Kernel.says h) g.W.Connection.was_shut g.G.Gate.is_open base c.answer_all-standing.new.output c.answer_all-standing.new.ring
     c.answer_all-standing.result (c.answer_all-standing.ensures.stands h p base fresh) c.answer_all-standing.ensures.rests let_through)

@@ -39,8 +39,10 @@ returns-in-Over-clause-ends g c h p base is =
 pub loop-preserved-else-count-eq0 : goal.loop-preserved-else-count-eq0
 loop-preserved-else-count-eq0 g c = record {
   grows = λ h p. c.loop.invariant.grows h (c.take_late-after.ensures.grows h p);
-  left = laws.one_less c.loop.count (known_items c.loop.consumer) (known_items c.pop_known.new.self) c.pop_known.result c.pop_known.ensures.received.1 c.loop.invariant.left;
-  same = laws.rest_taken (received c.loop.consumer) (received c.pop_known.new.self) (known_items c.loop.consumer) (known_items c.pop_known.new.self) c.pop_known.result c.pop_known.ensures.received.0 c.pop_known.ensures.received.1 ∙ c.loop.invariant.same;
+  left = laws.one_less c.loop.count (known_items c.loop.consumer) (known_items c.pop_known.new.self) c.pop_known.result c.pop_known.ensures.received.1
+      c.loop.invariant.left;
+  same = laws.rest_taken (received c.loop.consumer) (received c.pop_known.new.self) (known_items c.loop.consumer)
+      (known_items c.pop_known.new.self) c.pop_known.result c.pop_known.ensures.received.0 c.pop_known.ensures.received.1 ∙ c.loop.invariant.same;
   stands = λ h p base is.
       let stood = Stands (g.K.Kernel.says h) g.W.Connection.was_shut base in
       subst (λ (l : List Request). stood l c.take_late-after.new.output c.take_late-after.result.0) (sym c.pop_known.ensures.received.0)
@@ -55,5 +57,6 @@ loop-preserved g c = record {
   same = c.loop.invariant.same;
   stands = λ h p base is.
       let stood = Stands (g.K.Kernel.says h) g.W.Connection.was_shut base (received c.loop.consumer) c.loop.output in
-      c.wait_on.ensures.stands (received c.loop.consumer) h p base (subst stood c.in-Waits.is (c.loop.invariant.stands h (c.wait_on.ensures.grows h p) base is));
+      c.wait_on.ensures.stands (received c.loop.consumer) h p base
+      (subst stood c.in-Waits.is (c.loop.invariant.stands h (c.wait_on.ensures.grows h p) base is));
 }

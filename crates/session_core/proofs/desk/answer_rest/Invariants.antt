@@ -10,5 +10,6 @@ invariant-loop g l = record {
   left : length (known_items l.consumer) ≡ l.count;
   same : received l.consumer ++ known_items l.consumer ≡ received l.fn.consumer ++ known_items l.fn.consumer;
   grows : Grows l.fn.front l.front;
-  stands : StandsOn l.front g.K.Kernel.says g.W.Connection.was_shut (received l.fn.consumer) l.fn.output l.fn.standing (received l.consumer) l.output l.standing;
+  stands : StandsOn l.front g.K.Kernel.says g.W.Connection.was_shut (received l.fn.consumer) l.fn.output l.fn.standing
+      (received l.consumer) l.output l.standing;
 }

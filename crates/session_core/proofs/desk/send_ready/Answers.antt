@@ -11,7 +11,8 @@ returns-in-Ok-clause-stands g c taken h p base is =
 
 pub returns-in-Err-clause-stands : goal.returns-in-Err-clause-stands
 returns-in-Err-clause-stands g c taken h p base is =
-    laws.has_left (g.K.Kernel.says h) g.W.Connection.was_shut base taken c.flush.new.self c.close_and_shut.new.output (over.Unwritten c.in-Ready.stage) c.close_and_shut.result
+    laws.has_left (g.K.Kernel.says h) g.W.Connection.was_shut base taken c.flush.new.self c.close_and_shut.new.output
+    (over.Unwritten c.in-Ready.stage) c.close_and_shut.result
     (laws.not_sent (g.K.Kernel.says h) base taken c.args.output.now c.flush.new.self c.in-Ready.stage c.in-Err.ensures.err
     (subst (Stands (g.K.Kernel.says h) g.W.Connection.was_shut base taken c.args.output.now) c.in-Ready.is is))
     (c.close_and_shut.ensures.left h p) c.close_and_shut.ensures.shut

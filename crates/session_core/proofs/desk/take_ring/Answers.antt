@@ -7,7 +7,8 @@ use Rattle.session_core.proofs.DeskLemmas as laws
 use Rattle.session_core.proofs.desk.take_ring.Goals as goal
 
 pub returns-in-Err-clause-stands : goal.returns-in-Err-clause-stands
-returns-in-Err-clause-stands g c h p base is = subst (λ (l : List Request). IsReady (g.K.Kernel.says h) base l c.loop.output c.loop.stage) (sym c.in-Err.ensures.empty.0) (c.loop.invariant.stands h p base is)
+returns-in-Err-clause-stands g c h p base is = subst (λ (l : List Request). IsReady (g.K.Kernel.says h) base l c.loop.output c.loop.stage)
+    (sym c.in-Err.ensures.empty.0) (c.loop.invariant.stands h p base is)
 
 pub loop-preserved : goal.loop-preserved
 loop-preserved g c = record {
@@ -26,4 +27,5 @@ returns-in_default-clause-stands g c h p base is =
     (c.stand.ensures.stands h p) base (received c.pop.new.self)
     (subst (λ (l : List Request). TurnStands (g.K.Kernel.says h) base l c.take_next.new.output c.take_next.result) (sym c.in-Ok.ensures.ok.0)
     (laws.one_taken (g.K.Kernel.says h) base (received c.loop.consumer) c.in-Ok.request c.loop.stage c.loop.output c.take_next.new.output c.take_next.result
-    (c.loop.invariant.stands h (c.take_next.ensures.grows h q) base is) c.take_next.ensures.takes (c.take_next.ensures.refusals h q) (c.take_next.ensures.said h q)))
+    (c.loop.invariant.stands h (c.take_next.ensures.grows h q) base is) c.take_next.ensures.takes (c.take_next.ensures.refusals h q)
+    (c.take_next.ensures.said h q)))

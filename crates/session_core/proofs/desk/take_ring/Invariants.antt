@@ -9,5 +9,6 @@ abbrev pub invariant-loop : goal.invariant-loop
 invariant-loop g l = record {
   ring : SameConsumer l.fn.consumer l.consumer;
   grows : Grows l.fn.front l.front;
-  stands : Since l.front (λ h. (base : Option (List ℕ)) → IsReady (g.K.Kernel.says h) base (received l.fn.consumer) l.fn.output l.fn.stage → IsReady (g.K.Kernel.says h) base (received l.consumer) l.output l.stage);
+  stands : Since l.front (λ h. (base : Option (List ℕ)) → IsReady (g.K.Kernel.says h) base (received l.fn.consumer) l.fn.output l.fn.stage →
+      IsReady (g.K.Kernel.says h) base (received l.consumer) l.output l.stage);
 }

@@ -8,14 +8,16 @@ use Rattle.session_core.proofs.serve.serve.Goals as goal
 
 pub returns-in-Err-clause-serves : goal.returns-in-Err-clause-serves
 returns-in-Err-clause-serves g c h p =
-    let is = laws.unwritten_by c.unserved-served.result (Some (g.R.Read.remaining c.args.reader)) (g.W.Write.contents c.args.writer) c.new-writer.result end.NoMemory c.new-writer.ensures c.unserved-served.ensures.is in
+    let is = laws.unwritten_by c.unserved-served.result (Some (g.R.Read.remaining c.args.reader)) (g.W.Write.contents c.args.writer) c.new-writer.result
+    end.NoMemory c.new-writer.ensures c.unserved-served.ensures.is in
     subst (ServesUnder (g.K.Kernel.says h) g.G.Gate.is_open (g.R.Read.remaining c.args.reader) (g.W.Write.contents c.args.writer)) (sym is)
     (laws.unserved (g.K.Kernel.says h) g.G.Gate.is_open (g.R.Read.remaining c.args.reader) (g.W.Write.contents c.args.writer))
 
 pub returns-in-Err-new-clause-serves : goal.returns-in-Err-new-clause-serves
 returns-in-Err-new-clause-serves g c h p =
     let is =
-    laws.unwritten_by c.unserved-served-in-Err-new.result (Some (g.R.Read.remaining c.args.reader)) (g.W.Write.contents c.in-Err-new.writer) c.new-writer-in-Err-new.result end.NoMemory c.new-writer-in-Err-new.ensures c.unserved-served-in-Err-new.ensures.is in
+    laws.unwritten_by c.unserved-served-in-Err-new.result (Some (g.R.Read.remaining c.args.reader)) (g.W.Write.contents c.in-Err-new.writer)
+    c.new-writer-in-Err-new.result end.NoMemory c.new-writer-in-Err-new.ensures c.unserved-served-in-Err-new.ensures.is in
     subst (ServesUnder (g.K.Kernel.says h) g.G.Gate.is_open (g.R.Read.remaining c.args.reader) (g.W.Write.contents c.args.writer))
     (sym (is ∙ ap (λ w. unserved_by (Some (g.R.Read.remaining c.args.reader)) (g.W.Write.contents w) end.NoMemory) c.in-Err-new.ensures.err))
     (laws.unserved (g.K.Kernel.says h) g.G.Gate.is_open (g.R.Read.remaining c.args.reader) (g.W.Write.contents c.args.writer))

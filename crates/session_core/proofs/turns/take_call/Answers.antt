@@ -20,7 +20,8 @@ returns-in-Ok-put_recorded-clause-takes g c base handled holds talking = (
   c.args.call,
   refl,
   laws.parked base handled c.args.seat c.call.new.seat c.args.call c.in-Ok.receipt _ _ c.in-Ok.ensures.calls.0 c.in-Ok.ensures.calls.1
-      (ap (λ (r : Record). goes_on r.outcome) (sym c.record.ensures.«record») ∙ sym c.goes_on-waits.ensures ∙ c.if-waits.true) c.in-Ok-put_recorded.ensures.ok holds talking,
+      (ap (λ (r : Record). goes_on r.outcome) (sym c.record.ensures.«record») ∙ sym c.goes_on-waits.ensures ∙ c.if-waits.true) c.in-Ok-put_recorded.ensures.ok
+      holds talking,
 )
 
 pub returns-in-Ok-2-clause-takes : goal.returns-in-Ok-2-clause-takes
@@ -32,11 +33,13 @@ pub returns-in-Err-put_recorded-clause-takes : goal.returns-in-Err-put_recorded-
 returns-in-Err-put_recorded-clause-takes g c =
     laws.untold c.args.seat c.call.new.seat c.args.call c.in-Err-put_recorded.receipt c.args.output.now c.put_recorded.new.self
     (subst (Adds c.args.seat c.call.new.seat (act.Call c.args.call)) (sym c.in-Err-put_recorded.ensures.back) c.in-Ok.ensures.calls.0)
-    (subst (λ (r : Receipted). EndsOrWaits r.record_is.outcome) (sym c.in-Err-put_recorded.ensures.back) c.in-Ok.ensures.calls.1) c.in-Err-put_recorded.ensures.err
+    (subst (λ (r : Receipted). EndsOrWaits r.record_is.outcome) (sym c.in-Err-put_recorded.ensures.back) c.in-Ok.ensures.calls.1)
+    c.in-Err-put_recorded.ensures.err
 
 pub returns-in-Ok-put_refused-clause-refusals : goal.returns-in-Ok-put_refused-clause-refusals
 returns-in-Ok-put_refused-clause-refusals g c h p base handled holds talking are =
-    call_refused (g.K.Kernel.says h) handled c.args.seat c.args.call c.in-Err.refusal c.args.output.now c.put_refused.new.self talking (c.in-Err.ensures.refused h p) c.in-Ok-put_refused.ensures.ok are
+    call_refused (g.K.Kernel.says h) handled c.args.seat c.args.call c.in-Err.refusal c.args.output.now c.put_refused.new.self talking
+    (c.in-Err.ensures.refused h p) c.in-Ok-put_refused.ensures.ok are
 
 pub returns-in-Err-put_refused-clause-refusals : goal.returns-in-Err-put_refused-clause-refusals
 returns-in-Err-put_refused-clause-refusals g c h p base handled holds talking are =
@@ -45,7 +48,8 @@ returns-in-Err-put_refused-clause-refusals g c h p base handled holds talking ar
 
 pub returns-in-Ok-put_recorded-clause-refusals : goal.returns-in-Ok-put_recorded-clause-refusals
 returns-in-Ok-put_recorded-clause-refusals g c h p base handled holds talking are =
-    put_said (RefusalSaid (g.K.Kernel.says h) (handled ++ request.Call c.args.call ∷ [])) c.args.output.now c.put_recorded.new.self (told.Recorded c.in-Ok.receipt)
+    put_said (RefusalSaid (g.K.Kernel.says h) (handled ++ request.Call c.args.call ∷ [])) c.args.output.now c.put_recorded.new.self
+    (told.Recorded c.in-Ok.receipt)
     c.in-Ok-put_recorded.ensures.ok (wider (g.K.Kernel.says h) handled (request.Call c.args.call ∷ []) c.args.output.now.answers are) tt
 
 pub returns-in-Ok-2-clause-refusals : goal.returns-in-Ok-2-clause-refusals

@@ -15,7 +15,8 @@ returns-in-Err-clause-takes g c = laws.unflushed _ _ _ _ c.in-Err.ensures.err
 pub returns-in-Ok-clause-refusals : goal.returns-in-Ok-clause-refusals
 returns-in-Ok-clause-refusals g c h p base handled holds talking are =
     let same = c.in-Ok.ensures.ok.answers in
-    (c.take_up.ensures.refusals h p) base handled (c.in-Ok.ensures.ok.holds base holds) (subst (λ (l : List Told). IsTalking handled l c.args.stage) (sym same) talking)
+    (c.take_up.ensures.refusals h p) base handled (c.in-Ok.ensures.ok.holds base holds) (subst (λ (l : List Told). IsTalking handled l c.args.stage)
+    (sym same) talking)
     (kept_said (RefusalSaid (g.K.Kernel.says h) handled) c.args.output.now.answers c.flush_much.new.self.answers same are)
 
 pub returns-in-Err-clause-refusals : goal.returns-in-Err-clause-refusals

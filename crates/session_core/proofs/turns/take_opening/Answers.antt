@@ -8,7 +8,8 @@ use Rattle.session_core.proofs.turns.take_opening.Goals as goal
 
 pub returns-in-Ok-clause-takes : goal.returns-in-Ok-clause-takes
 returns-in-Ok-clause-takes g c =
-    laws.seated c.args.admission c.args.request c.in-Ok-Seated.seat _ _ _ c.receipts.ensures.receipts (subst (λ o. IsOpenedAs itself itself c.args.request o) c.in-Ok-Seated.field-0-is c.in-Ok-Seated.ensures.opens) c.in-Ok.ensures.ok
+    laws.seated c.args.admission c.args.request c.in-Ok-Seated.seat _ _ _ c.receipts.ensures.receipts
+    (subst (λ o. IsOpenedAs itself itself c.args.request o) c.in-Ok-Seated.field-0-is c.in-Ok-Seated.ensures.opens) c.in-Ok.ensures.ok
 
 pub returns-in-Err-put_first-clause-takes : goal.returns-in-Err-put_first-clause-takes
 returns-in-Err-put_first-clause-takes g c =
@@ -17,7 +18,8 @@ returns-in-Err-put_first-clause-takes g c =
 
 pub returns-in-Ok-put_first-clause-takes : goal.returns-in-Ok-put_first-clause-takes
 returns-in-Ok-put_first-clause-takes g c =
-    laws.unseated c.args.admission c.args.request c.in-Ok-Refused.seat _ _ _ c.receipts-in-Ok-Refused.ensures.receipts (subst (λ o. IsOpenedAs itself itself c.args.request o) c.in-Ok-Refused.field-0-is c.in-Ok-Refused.ensures.opens) c.in-Ok-put_first.ensures.ok
+    laws.unseated c.args.admission c.args.request c.in-Ok-Refused.seat _ _ _ c.receipts-in-Ok-Refused.ensures.receipts
+    (subst (λ o. IsOpenedAs itself itself c.args.request o) c.in-Ok-Refused.field-0-is c.in-Ok-Refused.ensures.opens) c.in-Ok-put_first.ensures.ok
 
 pub returns-in-Err-put_first-2-clause-takes : goal.returns-in-Err-put_first-2-clause-takes
 returns-in-Err-put_first-2-clause-takes g c =
@@ -28,7 +30,8 @@ pub returns-in-Err-clause-takes : goal.returns-in-Err-clause-takes
 returns-in-Err-clause-takes g c = laws.unopened c.args.admission c.in-Err.admission _ _ _ _ _ c.requires c.put_given_up-why.ensures
 
 pub returns-in-Err-clause-said : goal.returns-in-Err-clause-said
-returns-in-Err-clause-said g c h p = unopened_said (g.K.Kernel.says h).not_opened c.args.request c.in-Err.field-0.refusal c.args.output.now c.put_given_up-why.new.output c.put_given_up-why.result c.put_given_up-why.ensures (c.in-Err.ensures.refused h p)
+returns-in-Err-clause-said g c h p = unopened_said (g.K.Kernel.says h).not_opened c.args.request c.in-Err.field-0.refusal c.args.output.now
+    c.put_given_up-why.new.output c.put_given_up-why.result c.put_given_up-why.ensures (c.in-Err.ensures.refused h p)
 
 pub returns-in-Ok-clause-refusals : goal.returns-in-Ok-clause-refusals
 returns-in-Ok-clause-refusals g c h p base handled holds talking are =
@@ -51,5 +54,6 @@ returns-in-Err-put_first-2-clause-refusals g c h p base handled holds talking ar
 
 pub returns-in-Err-clause-refusals : goal.returns-in-Err-clause-refusals
 returns-in-Err-clause-refusals g c h p base handled holds talking are =
-    opening_refused (g.K.Kernel.says h) handled c.args.request c.in-Err.field-0.refusal c.args.output.now c.put_given_up-why.new.output c.put_given_up-why.result
+    opening_refused (g.K.Kernel.says h) handled c.args.request c.in-Err.field-0.refusal c.args.output.now c.put_given_up-why.new.output
+    c.put_given_up-why.result
     c.requires (c.in-Err.ensures.refused h p) c.put_given_up-why.ensures talking.0 talking.1

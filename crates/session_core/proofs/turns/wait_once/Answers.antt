@@ -17,7 +17,8 @@ pub returns-in-Err-clause-waits : goal.returns-in-Err-clause-waits
 returns-in-Err-clause-waits g c base handled call w = laws.unsent base handled call c.args.seat _ _ c.in-Err.ensures.err w
 
 pub returns-in-Ended-clause-waits : goal.returns-in-Ended-clause-waits
-returns-in-Ended-clause-waits g c base handled call w = c.end_given_up.ensures.gives base handled call c.args.seat (laws.still_waits base handled call c.args.seat _ _ c.in-Ok.ensures.ok w) c.in-Ended.ensures.finishes.0
+returns-in-Ended-clause-waits g c base handled call w = c.end_given_up.ensures.gives base handled call c.args.seat
+    (laws.still_waits base handled call c.args.seat _ _ c.in-Ok.ensures.ok w) c.in-Ended.ensures.finishes.0
 
 pub returns-in-Ok-put_recorded-clause-waits : goal.returns-in-Ok-put_recorded-clause-waits
 returns-in-Ok-put_recorded-clause-waits g c base handled call w = (
@@ -38,12 +39,14 @@ pub returns-in-Err-put_recorded-clause-waits : goal.returns-in-Err-put_recorded-
 returns-in-Err-put_recorded-clause-waits g c base handled call w =
     laws.resumed_untold base handled call c.args.seat c.in-Resumed.seat c.in-Err-put_recorded.receipt _ _
     (subst (Adds c.args.seat c.in-Resumed.seat act.Resume) (sym c.in-Err-put_recorded.ensures.back) c.in-Resumed.ensures.finishes.0)
-    (subst (λ (r : Receipted). EndsOrGoesOn r.record_is.outcome) (sym c.in-Err-put_recorded.ensures.back) c.in-Resumed.ensures.finishes.1) c.in-Err-put_recorded.ensures.err
+    (subst (λ (r : Receipted). EndsOrGoesOn r.record_is.outcome) (sym c.in-Err-put_recorded.ensures.back) c.in-Resumed.ensures.finishes.1)
+    c.in-Err-put_recorded.ensures.err
     (laws.still_waits base handled call c.args.seat _ _ c.in-Ok.ensures.ok w)
 
 pub returns-in-Ended-clause-said : goal.returns-in-Ended-clause-said
 returns-in-Ended-clause-said g c h p =
-    given_up_said (g.K.Kernel.says h) c.in-Ended.ended.seat c.in-Ended.ended.why c.flush.new.self c.end_given_up.new.output c.end_given_up.result c.end_given_up.ensures.tells
+    given_up_said (g.K.Kernel.says h) c.in-Ended.ended.seat c.in-Ended.ended.why c.flush.new.self c.end_given_up.new.output c.end_given_up.result
+    c.end_given_up.ensures.tells
     (c.args.seat, c.in-Ended.ensures.finishes.0, (c.in-Ended.ensures.ended h p))
 
 pub returns-in-Err-clause-refusals : goal.returns-in-Err-clause-refusals
@@ -53,23 +56,28 @@ returns-in-Err-clause-refusals g c h p base handled call w are =
 
 pub returns-in-Ended-clause-refusals : goal.returns-in-Ended-clause-refusals
 returns-in-Ended-clause-refusals g c h p base handled call w are =
-    ended_refused (g.K.Kernel.says h) base handled call c.args.seat c.in-Ended.ended.seat c.in-Ended.ended.why c.flush.new.self c.end_given_up.new.output c.end_given_up.result c.end_given_up.ensures.tells c.in-Ended.ensures.finishes.0 (c.in-Ended.ensures.ended h p)
+    ended_refused (g.K.Kernel.says h) base handled call c.args.seat c.in-Ended.ended.seat c.in-Ended.ended.why c.flush.new.self c.end_given_up.new.output
+    c.end_given_up.result c.end_given_up.ensures.tells c.in-Ended.ensures.finishes.0 (c.in-Ended.ensures.ended h p)
     (laws.still_waits base handled call c.args.seat _ _ c.in-Ok.ensures.ok w)
-    (kept_said (RefusalSaid (g.K.Kernel.says h) (handled ++ request.Call call ∷ [])) c.args.output.now.answers c.flush.new.self.answers c.in-Ok.ensures.ok.flushes.answers are)
+    (kept_said (RefusalSaid (g.K.Kernel.says h) (handled ++ request.Call call ∷ [])) c.args.output.now.answers c.flush.new.self.answers
+    c.in-Ok.ensures.ok.flushes.answers are)
 
 pub returns-in-Ok-put_recorded-clause-refusals : goal.returns-in-Ok-put_recorded-clause-refusals
 returns-in-Ok-put_recorded-clause-refusals g c h p base handled call w are =
     put_said (RefusalSaid (g.K.Kernel.says h) (handled ++ request.Call call ∷ [])) c.flush.new.self c.put_recorded.new.self (told.Recorded c.in-Resumed.receipt)
     c.in-Ok-put_recorded.ensures.ok
-    (kept_said (RefusalSaid (g.K.Kernel.says h) (handled ++ request.Call call ∷ [])) c.args.output.now.answers c.flush.new.self.answers c.in-Ok.ensures.ok.flushes.answers are) tt
+    (kept_said (RefusalSaid (g.K.Kernel.says h) (handled ++ request.Call call ∷ [])) c.args.output.now.answers c.flush.new.self.answers
+    c.in-Ok.ensures.ok.flushes.answers are) tt
 
 pub returns-in-Ok-2-clause-refusals : goal.returns-in-Ok-2-clause-refusals
 returns-in-Ok-2-clause-refusals g c h p base handled call w are =
     put_said (RefusalSaid (g.K.Kernel.says h) (handled ++ request.Call call ∷ [])) c.flush.new.self c.put_recorded.new.self (told.Recorded c.in-Resumed.receipt)
     c.in-Ok-2.ensures.ok
-    (kept_said (RefusalSaid (g.K.Kernel.says h) (handled ++ request.Call call ∷ [])) c.args.output.now.answers c.flush.new.self.answers c.in-Ok.ensures.ok.flushes.answers are) tt
+    (kept_said (RefusalSaid (g.K.Kernel.says h) (handled ++ request.Call call ∷ [])) c.args.output.now.answers c.flush.new.self.answers
+    c.in-Ok.ensures.ok.flushes.answers are) tt
 
 pub returns-in-Err-put_recorded-clause-refusals : goal.returns-in-Err-put_recorded-clause-refusals
 returns-in-Err-put_recorded-clause-refusals g c h p base handled call w are =
     same_said (RefusalSaid (g.K.Kernel.says h) (handled ++ request.Call call ∷ [])) c.flush.new.self c.put_recorded.new.self c.in-Err-put_recorded.ensures.err
-    (kept_said (RefusalSaid (g.K.Kernel.says h) (handled ++ request.Call call ∷ [])) c.args.output.now.answers c.flush.new.self.answers c.in-Ok.ensures.ok.flushes.answers are)
+    (kept_said (RefusalSaid (g.K.Kernel.says h) (handled ++ request.Call call ∷ [])) c.args.output.now.answers c.flush.new.self.answers
+    c.in-Ok.ensures.ok.flushes.answers are)

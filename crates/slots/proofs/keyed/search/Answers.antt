@@ -15,7 +15,12 @@ loop-key-init g c =
 pub returns-then-entry-number-clause-there : goal.returns-then-entry-number-clause-there
 returns-then-entry-number-clause-there g c =
     let first = c.in-Some.ensures.steps in
-    record { entry = c.in-Some.entry.now; there = c.loop-key.invariant.3 c.in-Some.key c.in-Some.entry.now (rw first (0, omega arith, refl)); number = c.if-entry-number.true }
+    record {
+      entry = c.in-Some.entry.now;
+      there = c.loop-key.invariant.3 c.in-Some.key c.in-Some.entry.now (rw first (0, omega arith, refl));
+      number =
+          c.if-entry-number.true;
+    }
 
 pub loop-key-preserved : goal.loop-key-preserved
 loop-key-preserved g c =
@@ -32,4 +37,5 @@ loop-key-preserved g c =
 pub returns-clause-gone : goal.returns-clause-gone
 returns-clause-gone g c =
     let over = c.in-None.ensures.steps.0 in
-    found_nowhere c.args.entries.now.slots c.args.number (λ key entry stands number. let left = c.loop-key.invariant.2 key entry stands number in let none = ap length over in omega (arith, left.1, none))
+    found_nowhere c.args.entries.now.slots c.args.number (λ key entry stands number. let left = c.loop-key.invariant.2 key entry stands number in let none =
+    ap length over in omega (arith, left.1, none))

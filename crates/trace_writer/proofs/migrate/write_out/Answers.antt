@@ -11,4 +11,5 @@ returns-in_default-Ok g c =
 pub returns-in_default-Err : goal.returns-in_default-Err
 returns-in_default-Err g c =
     let broken : IsBroken c.write_all.new.self.log = search rules in
-    breaks_so c.args.writer.now c.write_all.new.self c.args.bytes.now c.args.before c.write_all.result.0 c.write_all.ensures.front broken c.write_all.ensures.few
+    breaks_so c.args.writer.now c.write_all.new.self c.args.bytes.now c.args.before c.write_all.result.0 c.write_all.ensures.front broken
+    c.write_all.ensures.few

@@ -10,7 +10,9 @@ returns-in-All c =
     let fed = rw c.in-All.is at c.in_ok-progress.ensures.fed in
     rw (← c.self.view_is) (record {
       headed = refl;
-      goes = λ told body j short. rw c.fault_at.ensures (laws.same c.pieces_go_on.ensures told body c.args.piece.now fed.0 old new c.self.inside.judging c.feed_to.new.taker _ j refl refl fed.1 fed.2 refl short);
+      goes = λ told body j short. rw c.fault_at.ensures
+          (laws.same c.pieces_go_on.ensures told body c.args.piece.now fed.0 old new c.self.inside.judging c.feed_to.new.taker _ j refl refl fed.1 fed.2 refl
+          short);
     })
 
 pub returns-in-Enough : goal.returns-in-Enough

@@ -10,4 +10,5 @@ returns c =
       | else-is_closed w ↦ rw (sym c.is_closed.ensures ∙ w.if-is_closed.false) w.closing-is
     ] in
     rw (← c.self.view_is, c.in-Some.is)
-    (c.has_reserve.ensures ∙ reserve_is c.self.inside.state.machine.world c.in-Some.most c.self.inside.place c.live_processes-live.result c.if-is_closed.closing c.live_processes-live.ensures closes)
+    (c.has_reserve.ensures ∙ reserve_is c.self.inside.state.machine.world c.in-Some.most c.self.inside.place c.live_processes-live.result c.if-is_closed.closing
+    c.live_processes-live.ensures closes)

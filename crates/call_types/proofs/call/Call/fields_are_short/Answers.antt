@@ -14,12 +14,16 @@ pub returns-in-Mkfifo : goal.returns-in-Mkfifo
 returns-in-Mkfifo c = rw c.in-Mkfifo.is (omega (arith, ap length c.as_slice-bytes-in-Mkfifo.ensures.value, c.as_slice-bytes-in-Mkfifo.ensures.within), tt)
 
 pub returns-in-Link : goal.returns-in-Link
-returns-in-Link c = rw c.in-Link.is
-    (omega (arith, ap length c.as_slice-old.ensures.value, c.as_slice-old.ensures.within), (omega (arith, ap length c.as_slice-new.ensures.value, c.as_slice-new.ensures.within), tt))
+returns-in-Link c = rw c.in-Link.is (
+  omega (arith, ap length c.as_slice-old.ensures.value, c.as_slice-old.ensures.within),
+  (omega (arith, ap length c.as_slice-new.ensures.value, c.as_slice-new.ensures.within), tt),
+)
 
 pub returns-in-Unlink : goal.returns-in-Unlink
 returns-in-Unlink c = rw c.in-Unlink.is (omega (arith, ap length c.as_slice-bytes-in-Unlink.ensures.value, c.as_slice-bytes-in-Unlink.ensures.within), tt)
 
 pub returns-in-Rename : goal.returns-in-Rename
-returns-in-Rename c = rw c.in-Rename.is
-    (omega (arith, ap length c.as_slice-old-in-Rename.ensures.value, c.as_slice-old-in-Rename.ensures.within), (omega (arith, ap length c.as_slice-new-in-Rename.ensures.value, c.as_slice-new-in-Rename.ensures.within), tt))
+returns-in-Rename c = rw c.in-Rename.is (
+  omega (arith, ap length c.as_slice-old-in-Rename.ensures.value, c.as_slice-old-in-Rename.ensures.within),
+  (omega (arith, ap length c.as_slice-new-in-Rename.ensures.value, c.as_slice-new-in-Rename.ensures.within), tt),
+)

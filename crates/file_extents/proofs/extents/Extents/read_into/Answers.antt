@@ -8,7 +8,8 @@ use Rattle.file_extents.proofs.extents.Extents.read_into.Goals as goal
 pub append-requires-clause-room : goal.append-requires-clause-room
 append-requires-clause-room c =
     let F = chunk_at c.self.inside.table in
-    let fits : vec_len c.args.out.now + length (bytes_at (contents c.self.inside.len F) c.args.start c.args.count) ≤ vec_capacity c.args.out.now = rw (← c.self.view_is) at c.requires.room in
+    let fits : vec_len c.args.out.now + length (bytes_at (contents c.self.inside.len F) c.args.start c.args.count) ≤ vec_capacity c.args.out.now =
+    rw (← c.self.view_is) at c.requires.room in
     omega (arith, fits, length_read F c.self.inside.len c.args.start c.args.count)
 
 pub returns-then-start-self-clause-items : goal.returns-then-start-self-clause-items

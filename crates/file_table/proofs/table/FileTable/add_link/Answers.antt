@@ -8,4 +8,5 @@ pub returns-clause-slots : goal.returns-clause-slots
 returns-clause-slots c =
     let used = c.value_mut-used.result.now in
     rw (← c.self.view_is)
-    (edited_as c.self.inside.files.0 c.args.file (λ x. one_more (with_value named x)) used _ c.value_mut-used.ensures.value refl ∙ sym (edited_twice c.self.inside.files.0 c.args.file one_more (with_value named)))
+    (edited_as c.self.inside.files.0 c.args.file (λ x. one_more (with_value named x)) used _ c.value_mut-used.ensures.value refl ∙
+    sym (edited_twice c.self.inside.files.0 c.args.file one_more (with_value named)))

@@ -4,7 +4,8 @@ use Rattle.file_table.proofs.FileLaws.{stands, stands_not}
 use Rattle.file_table.proofs.table.FileTable.length_of.Goals as goal
 
 pub returns-in-Some : goal.returns-in-Some
-returns-in-Some c = rw (← c.self.view_is) (c.len.ensures ∙ ap (λ x. length (file_bytes x)) (sym (stands c.self.inside.files.0 c.args.file c.in-Some.used.now (sym c.in-Some.ensures))))
+returns-in-Some c = rw (← c.self.view_is) (c.len.ensures ∙
+    ap (λ x. length (file_bytes x)) (sym (stands c.self.inside.files.0 c.args.file c.in-Some.used.now (sym c.in-Some.ensures))))
 
 pub returns-in-None : goal.returns-in-None
 returns-in-None c = rw (← c.self.view_is) (ap (λ x. length (file_bytes x)) (sym (stands_not c.self.inside.files.0 c.args.file (sym c.in-None.ensures))))

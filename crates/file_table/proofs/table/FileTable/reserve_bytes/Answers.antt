@@ -18,15 +18,19 @@ pub returns-clause-slots : goal.returns-clause-slots
 returns-clause-slots c =
     let room = c.reserve.ensures.0 in
     let used = c.value_mut.result.now in
-    rw (← c.self.view_is)
-    (room, edited_as c.self.inside.files.0 c.args.file (Roomier room) used _ c.value_mut.ensures.value (ap (λ stored. record used { value = stored }) c.reserve.ensures.1))
+    rw (← c.self.view_is) (
+      room,
+      edited_as c.self.inside.files.0 c.args.file (Roomier room) used _ c.value_mut.ensures.value
+          (ap (λ stored. record used { value = stored }) c.reserve.ensures.1),
+    )
 
 pub returns-clause-files : goal.returns-clause-files
 returns-clause-files c =
     let room = c.reserve.ensures.0 in
     let used = c.value_mut.result.now in
     let files = c.self.inside.files.0 in
-    let made = edited_as files c.args.file (Roomier room) used (record used { value = c.reserve.new.self }) c.value_mut.ensures.value (ap (λ stored. record used { value = stored }) c.reserve.ensures.1) in
+    let made = edited_as files c.args.file (Roomier room) used (record used { value = c.reserve.new.self }) c.value_mut.ensures.value
+    (ap (λ stored. record used { value = stored }) c.reserve.ensures.1) in
     rw (← c.self.view_is, made) (files_same room files c.args.file)
 
 pub returns-clause-bytes : goal.returns-clause-bytes
@@ -35,7 +39,8 @@ returns-clause-bytes c =
     let room = c.reserve.ensures.0 in
     let used = c.value_mut.result.now in
     let files = c.self.inside.files.0 in
-    let made = edited_as files c.args.file (Roomier room) used (record used { value = c.reserve.new.self }) c.value_mut.ensures.value (ap (λ stored. record used { value = stored }) c.reserve.ensures.1) in
+    let made = edited_as files c.args.file (Roomier room) used (record used { value = c.reserve.new.self }) c.value_mut.ensures.value
+    (ap (λ stored. record used { value = stored }) c.reserve.ensures.1) in
     rw (made, room_made room files c.args.file there) c.reserve.ensures.2
 
 pub returns-clause-kept : goal.returns-clause-kept
@@ -43,6 +48,7 @@ returns-clause-kept c =
     let room = c.reserve.ensures.0 in
     let used = c.value_mut.result.now in
     let files = c.self.inside.files.0 in
-    let made = edited_as files c.args.file (Roomier room) used (record used { value = c.reserve.new.self }) c.value_mut.ensures.value (ap (λ stored. record used { value = stored }) c.reserve.ensures.1) in
+    let made = edited_as files c.args.file (Roomier room) used (record used { value = c.reserve.new.self }) c.value_mut.ensures.value
+    (ap (λ stored. record used { value = stored }) c.reserve.ensures.1) in
     let keeps = rw (sym (ap (λ x. room_slot (value_at x)) c.value_mut.ensures.value)) at c.reserve.ensures.3 in
     rw (← c.self.view_is, made) (rooms_kept room files c.args.file keeps)

@@ -14,5 +14,6 @@ returns-in-Headed c =
     let met : c.as_slice.result.now ≡ c.args.self.now ++ c.split_at.result.0.now = search rules in
     let short : header c.args.self.now ≡ Short = search rules in
     let before : c.len-before.result ≡ length c.args.self.now = search rules in
-    let whole = whole_met c.headers_go_on.ensures _ _ _ _ _ c.in-Headed.told c.in-Headed.length short c.split_at.ensures.front met (sym c.read_header.ensures ∙ c.in-Headed.is) in
+    let whole = whole_met c.headers_go_on.ensures _ _ _ _ _ c.in-Headed.told c.in-Headed.length short c.split_at.ensures.front met (sym c.read_header.ensures ∙
+    c.in-Headed.is) in
     (whole.0, c.split_at-in-Headed.ensures.back ∙ ap (λ n. drop (c.in-Headed.length - n) c.args.piece.now) before ∙ whole.1)

@@ -18,8 +18,10 @@ pub invariant_of-self : goal.invariant_of-self
 invariant_of-self c =
     let can = rw (← c.self.view_is) at c.requires.fits in
     let few = rw (← c.self.view_is) at c.requires.few in
-    rw (c.add.ensures.slots, c.new.ensures, c.hold_entries.ensures.slots, c.entries.ensures) (after_add (stored_in c.self.inside) c.self.invariant c.args.table c.args.attached can few)
+    rw (c.add.ensures.slots, c.new.ensures, c.hold_entries.ensures.slots, c.entries.ensures)
+    (after_add (stored_in c.self.inside) c.self.invariant c.args.table c.args.attached can few)
 
 pub returns-clause-world : goal.returns-clause-world
 returns-clause-world c =
-    rw (← c.self.view_is, c.add.ensures.slots, c.new.ensures, c.hold_entries.ensures.slots, c.entries.ensures) (added_world (stored_in c.self.inside) c.self.invariant c.args.table c.args.attached)
+    rw (← c.self.view_is, c.add.ensures.slots, c.new.ensures, c.hold_entries.ensures.slots, c.entries.ensures)
+    (added_world (stored_in c.self.inside) c.self.invariant c.args.table c.args.attached)

@@ -13,15 +13,18 @@ apply_table-requires c =
     let n = c.apply_process.new.self in
     let w = m.world in
     let between = with_files w (span_bytes c.args.bytes) c.args.change.files in
-    let made : n.world ≡ with_processes between c.args.change.process = c.apply_process.ensures.world ∙ ap (λ v. with_processes v c.args.change.process) c.apply_files.ensures.world in
+    let made : n.world ≡ with_processes between c.args.change.process = c.apply_process.ensures.world ∙
+    ap (λ v. with_processes v c.args.change.process) c.apply_files.ensures.world in
     let descriptions : n.world.descriptions ≡ w.descriptions =
     ap (λ v. v.descriptions) made ∙ (processes_keep between c.args.change.process ∙ files_keep w (span_bytes c.args.bytes) c.args.change.files) in
     let files : n.world.files ≡ between.files = ap (λ v. v.files) made ∙ processes_keep_files between c.args.change.process in
     let P : List (Option File) → Type 0 = λ fs. (f : ℕ) → SameFifo (fifo_at (slot w.files f)) (fifo_at (slot fs f)) in
-    let fifos : (f : ℕ) → SameFifo (fifo_at (slot w.files f)) (fifo_at (slot n.world.files f)) = subst P (sym files) (fifos_same w (span_bytes c.args.bytes) c.args.change.files c.requires.fits.files) in
+    let fifos : (f : ℕ) → SameFifo (fifo_at (slot w.files f)) (fifo_at (slot n.world.files f)) =
+    subst P (sym files) (fifos_same w (span_bytes c.args.bytes) c.args.change.files c.requires.fits.files) in
     record {
       fits = rw made c.requires.fits.table;
       proper = proper_after w n.world c.args.change.table descriptions c.requires.proper.table;
-      room = room_after m n c.args.change.table (c.apply_process.ensures.room.descriptions ∙ c.apply_files.ensures.tables.descriptions) (c.apply_process.ensures.room.pipes ∙ c.apply_files.ensures.tables.pipes) fifos c.requires.room.table;
+      room = room_after m n c.args.change.table (c.apply_process.ensures.room.descriptions ∙ c.apply_files.ensures.tables.descriptions)
+          (c.apply_process.ensures.room.pipes ∙ c.apply_files.ensures.tables.pipes) fifos c.requires.room.table;
       theirs = theirs_after w n.world descriptions fifos c.requires.ends;
     }

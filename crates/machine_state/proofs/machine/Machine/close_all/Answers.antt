@@ -27,8 +27,10 @@ loop-fd-preserved c =
     let w = c.loop-fd.self.world in
     let v = with_descriptor w c.args.process c.in-Some.fd None in
     let next = c.in-Some.ensures.least in
-    let free : (k : ℕ) → c.loop-fd.from ≤ k → k < c.in-Some.fd → slot (table_of (slot w.processes c.args.process)) k ≡ None = rw (← c.self-in-loop-fd.view_is) next.least in
-    let closed = closed_to c.args.process c.loop-fd.from c.in-Some.fd c.args.self.now.world w next.after c.loop-fd.invariant.world c.loop-fd.invariant.settled free in
+    let free : (k : ℕ) → c.loop-fd.from ≤ k → k < c.in-Some.fd → slot (table_of (slot w.processes c.args.process)) k ≡ None =
+    rw (← c.self-in-loop-fd.view_is) next.least in
+    let closed = closed_to c.args.process c.loop-fd.from c.in-Some.fd c.args.self.now.world w next.after c.loop-fd.invariant.world c.loop-fd.invariant.settled
+    free in
     record {
       world =
           c.close_one.ensures.world ∙ ap (λ u. sweep (with_descriptor u c.args.process c.in-Some.fd None)) (sym closed) ∙
@@ -43,6 +45,8 @@ loop-fd-preserved c =
 pub returns-clause-world : goal.returns-clause-world
 returns-clause-world c =
     let w = c.loop-fd.self.world in
-    let free : (k : ℕ) → c.loop-fd.from ≤ k → slot (table_of (slot w.processes c.args.process)) k ≡ None = rw (← c.self-in-loop-fd.view_is) c.in_default.ensures.none in
+    let free : (k : ℕ) → c.loop-fd.from ≤ k → slot (table_of (slot w.processes c.args.process)) k ≡ None =
+    rw (← c.self-in-loop-fd.view_is) c.in_default.ensures.none in
     sym
-    (closed_to c.args.process c.loop-fd.from OPEN_MAX c.args.self.now.world w c.loop-fd.invariant.below c.loop-fd.invariant.world c.loop-fd.invariant.settled (λ k after below. free k after))
+    (closed_to c.args.process c.loop-fd.from OPEN_MAX c.args.self.now.world w c.loop-fd.invariant.below c.loop-fd.invariant.world c.loop-fd.invariant.settled
+    (λ k after below. free k after))

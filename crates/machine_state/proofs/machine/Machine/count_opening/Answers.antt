@@ -8,4 +8,5 @@ invariant_of-self c =
     rw c.count_opening.ensures.slots (after_opening (stored_in c.self.inside) c.self.invariant c.args.file c.args.mode c.args.pipe opens)
 
 pub returns-clause-world : goal.returns-clause-world
-returns-clause-world c = rw (← c.self.view_is, c.count_opening.ensures.slots) (opening_world (stored_in c.self.inside) c.self.invariant c.args.file c.args.mode c.args.pipe)
+returns-clause-world c = rw (← c.self.view_is, c.count_opening.ensures.slots)
+    (opening_world (stored_in c.self.inside) c.self.invariant c.args.file c.args.mode c.args.pipe)

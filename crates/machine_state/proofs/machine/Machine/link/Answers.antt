@@ -13,7 +13,11 @@ pub add_link-requires-clause-few : goal.add_link-requires-clause-few
 add_link-requires-clause-few c = omega (arith, few_holders (stored_in c.self.inside) c.self.invariant c.args.file)
 
 pub add_link-requires-clause-few_links : goal.add_link-requires-clause-few_links
-add_link-requires-clause-few_links c = omega (arith, ap links_at (slot_values c.self.inside.files.0 c.args.file), few_links (stored_in c.self.inside) c.self.invariant c.args.file)
+add_link-requires-clause-few_links c = omega (
+  arith,
+  ap links_at (slot_values c.self.inside.files.0 c.args.file),
+  few_links (stored_in c.self.inside) c.self.invariant c.args.file,
+)
 
 pub invariant_of-self : goal.invariant_of-self
 invariant_of-self c =
@@ -23,4 +27,5 @@ invariant_of-self c =
     rw (c.add.ensures, c.add_link.ensures.slots) (after_link (stored_in c.self.inside) c.self.invariant c.args.name c.args.file new there few)
 
 pub returns-clause-world : goal.returns-clause-world
-returns-clause-world c = rw (← c.self.view_is, c.add.ensures, c.add_link.ensures.slots) (linked_world (stored_in c.self.inside) c.self.invariant c.args.name c.args.file)
+returns-clause-world c = rw (← c.self.view_is, c.add.ensures, c.add_link.ensures.slots)
+    (linked_world (stored_in c.self.inside) c.self.invariant c.args.name c.args.file)

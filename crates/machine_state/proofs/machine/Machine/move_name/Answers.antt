@@ -17,16 +17,19 @@ invariant_of-self c =
     let none = rw (← c.self.view_is) at c.requires.new in
     let fewer = rw c.remove.ensures.entries at c.in-Some.ensures.links in
     let is : file_of c.args.old.now s.names ≡ Some c.in-Some.file = sym c.remove.ensures.file ∙ c.in-Some.is in
-    rw (c.add.ensures, c.remove.ensures.entries) (after_move s c.self.invariant c.args.old.now c.args.new c.in-Some.file is none (same_links s c.self.invariant c.args.old.now c.args.new c.in-Some.file none fewer))
+    rw (c.add.ensures, c.remove.ensures.entries) (after_move s c.self.invariant c.args.old.now c.args.new c.in-Some.file is none
+    (same_links s c.self.invariant c.args.old.now c.args.new c.in-Some.file none fewer))
 
 pub returns-clause-world : goal.returns-clause-world
 returns-clause-world c =
     let s = stored_in c.self.inside in
     let is : file_of c.args.old.now s.names ≡ Some c.in-Some.file = sym c.remove.ensures.file ∙ c.in-Some.is in
-    rw (← c.self.view_is, c.add.ensures, c.remove.ensures.entries) (ap (λ x. record (world_in s) { names = with_name c.args.new (unwrap_or x 0) (without_name c.args.old.now s.names) }) (sym is))
+    rw (← c.self.view_is, c.add.ensures, c.remove.ensures.entries)
+    (ap (λ x. record (world_in s) { names = with_name c.args.new (unwrap_or x 0) (without_name c.args.old.now s.names) }) (sym is))
 
 pub returns-clause-links : goal.returns-clause-links
 returns-clause-links c =
     let none = rw (← c.self.view_is) at c.requires.new in
     let fewer = rw c.remove.ensures.entries at c.in-Some.ensures.links in
-    rw (← c.self.view_is, c.add.ensures, c.remove.ensures.entries) (same_links (stored_in c.self.inside) c.self.invariant c.args.old.now c.args.new c.in-Some.file none fewer)
+    rw (← c.self.view_is, c.add.ensures, c.remove.ensures.entries)
+    (same_links (stored_in c.self.inside) c.self.invariant c.args.old.now c.args.new c.in-Some.file none fewer)

@@ -23,19 +23,44 @@ pub add_end-requires-clause-few : goal.add_end-requires-clause-few
 add_end-requires-clause-few c = λ n. omega (arith, (few_ends (stored_in c.self.inside) c.self.invariant n).uses)
 
 pub add_end-requires-clause-few_readers : goal.add_end-requires-clause-few_readers
-add_end-requires-clause-few_readers c = λ n. omega (arith, (few_ends (stored_in c.self.inside) c.self.invariant n).readers, ap readers_at (slot_values c.self.inside.pipes.0 n))
+add_end-requires-clause-few_readers c = λ n. omega (
+  arith,
+  (few_ends (stored_in c.self.inside) c.self.invariant n).readers,
+  ap readers_at (slot_values c.self.inside.pipes.0 n),
+)
 
 pub add_end-requires-clause-few_writers : goal.add_end-requires-clause-few_writers
-add_end-requires-clause-few_writers c = λ n. omega (arith, (few_ends (stored_in c.self.inside) c.self.invariant n).writers, ap writers_at (slot_values c.self.inside.pipes.0 n))
+add_end-requires-clause-few_writers c = λ n. omega (
+  arith,
+  (few_ends (stored_in c.self.inside) c.self.invariant n).writers,
+  ap writers_at (slot_values c.self.inside.pipes.0 n),
+)
 
 pub invariant_of-self : goal.invariant_of-self
 invariant_of-self c =
     let can = rw (← c.self.view_is) at c.requires.fits in
     let few = rw (← c.self.view_is) at c.requires.few in
-    rw (c.set_fd.ensures.slots, c.add-ticket.ensures.slots, c.add_end.ensures.slots, c.pipe_of_target.ensures, c.hold_file.ensures, c.file_of_target.ensures, c.add-ticket.ensures.number)
+    rw (
+      c.set_fd.ensures.slots,
+      c.add-ticket.ensures.slots,
+      c.add_end.ensures.slots,
+      c.pipe_of_target.ensures,
+      c.hold_file.ensures,
+      c.file_of_target.ensures,
+      c.add-ticket.ensures.number,
+    )
     (after_open (stored_in c.self.inside) c.self.invariant c.args.process c.args.fd c.args.description can few)
 
 pub returns-clause-world : goal.returns-clause-world
 returns-clause-world c =
-    rw (← c.self.view_is, c.set_fd.ensures.slots, c.add-ticket.ensures.slots, c.add_end.ensures.slots, c.pipe_of_target.ensures, c.hold_file.ensures, c.file_of_target.ensures, c.add-ticket.ensures.number)
+    rw (
+      ← c.self.view_is,
+      c.set_fd.ensures.slots,
+      c.add-ticket.ensures.slots,
+      c.add_end.ensures.slots,
+      c.pipe_of_target.ensures,
+      c.hold_file.ensures,
+      c.file_of_target.ensures,
+      c.add-ticket.ensures.number,
+    )
     (opened_world (stored_in c.self.inside) c.self.invariant c.args.process c.args.fd c.args.description)

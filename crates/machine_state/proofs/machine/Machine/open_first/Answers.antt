@@ -20,11 +20,27 @@ invariant_of-self c =
     let on_next = rw (← c.self.view_is) at c.requires.on_next in
     let there = rw (← c.self.view_is) at c.requires.there in
     let few = rw (← c.self.view_is) at c.requires.few in
-    rw (c.set_fd.ensures.slots, c.add-ticket.ensures.slots, c.add.ensures.slots, c.take.ensures.after, c.hold_file.ensures, c.file_of_target-file.ensures, c.add-ticket.ensures.number)
+    rw (
+      c.set_fd.ensures.slots,
+      c.add-ticket.ensures.slots,
+      c.add.ensures.slots,
+      c.take.ensures.after,
+      c.hold_file.ensures,
+      c.file_of_target-file.ensures,
+      c.add-ticket.ensures.number,
+    )
     (after_first (stored_in c.self.inside) c.self.invariant c.in-Some.ring c.args.process c.args.fd c.args.description stands_by free on_next there few)
 
 pub returns-clause-world : goal.returns-clause-world
 returns-clause-world c =
     let stands_by : c.self.inside.spare ≡ Some c.in-Some.ring = cc in
-    rw (← c.self.view_is, c.set_fd.ensures.slots, c.add-ticket.ensures.slots, c.add.ensures.slots, c.hold_file.ensures, c.file_of_target-file.ensures, c.add-ticket.ensures.number)
+    rw (
+      ← c.self.view_is,
+      c.set_fd.ensures.slots,
+      c.add-ticket.ensures.slots,
+      c.add.ensures.slots,
+      c.hold_file.ensures,
+      c.file_of_target-file.ensures,
+      c.add-ticket.ensures.number,
+    )
     (first_world (stored_in c.self.inside) c.self.invariant c.in-Some.ring c.args.process c.args.fd c.args.description stands_by)

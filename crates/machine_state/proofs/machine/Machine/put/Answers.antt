@@ -16,10 +16,16 @@ put-requires-clause-places c =
     let holds = rw (← c.self.view_is) at c.requires.holds in
     let room = rw (← c.self.view_is) at c.requires.room in
     let given = rw c.in-Act.is at c.requires.given in
-    omega (arith, ap length c.cut.ensures, length-take-le c.args.count (span_bytes c.args.bytes), fits_ring (stored_in c.self.inside) c.self.invariant c.args.pipe c.args.count holds room)
+    omega (
+      arith,
+      ap length c.cut.ensures,
+      length-take-le c.args.count (span_bytes c.args.bytes),
+      fits_ring (stored_in c.self.inside) c.self.invariant c.args.pipe c.args.count holds room,
+    )
 
 pub invariant_of-self : goal.invariant_of-self
-invariant_of-self c = rw (c.put.ensures.slots, c.cut.ensures) (after_written (stored_in c.self.inside) c.self.invariant c.args.pipe (after_those (take c.args.count (span_bytes c.args.bytes))))
+invariant_of-self c = rw (c.put.ensures.slots, c.cut.ensures) (after_written (stored_in c.self.inside) c.self.invariant c.args.pipe
+    (after_those (take c.args.count (span_bytes c.args.bytes))))
 
 pub put-requires-in-Parked-clause-there : goal.put-requires-in-Parked-clause-there
 put-requires-in-Parked-clause-there c = sym (pipes_there c.self.inside.pipes.0 c.args.pipe) ∙ (rw (← c.self.view_is) at c.requires.there)
@@ -29,18 +35,26 @@ put-requires-in-Parked-clause-places c =
     let holds = rw (← c.self.view_is) at c.requires.holds in
     let room = rw (← c.self.view_is) at c.requires.room in
     let rest = rest_of (parked_of (slot c.self.inside.processes.0 c.in-Parked.process)) in
-    omega (arith, ap length c.parked_bytes.ensures, length-take c.args.count rest, fits_ring (stored_in c.self.inside) c.self.invariant c.args.pipe c.args.count holds room)
+    omega (
+      arith,
+      ap length c.parked_bytes.ensures,
+      length-take c.args.count rest,
+      fits_ring (stored_in c.self.inside) c.self.invariant c.args.pipe c.args.count holds room,
+    )
 
 pub invariant_of-self-in-Parked : goal.invariant_of-self-in-Parked
 invariant_of-self-in-Parked c =
     rw (c.put-in-Parked.ensures.slots, c.parked_bytes.ensures)
-    (after_written (stored_in c.self.inside) c.self.invariant c.args.pipe (after_those (take c.args.count (rest_of (parked_of (slot c.self.inside.processes.0 c.in-Parked.process))))))
+    (after_written (stored_in c.self.inside) c.self.invariant c.args.pipe
+    (after_those (take c.args.count (rest_of (parked_of (slot c.self.inside.processes.0 c.in-Parked.process))))))
 
 pub returns-in-Act-clause-world : goal.returns-in-Act-clause-world
 returns-in-Act-clause-world c =
-    rw (← c.self.view_is, c.put.ensures.slots, c.cut.ensures, c.in-Act.is) (written_world (stored_in c.self.inside) c.self.invariant c.args.pipe (after_those (take c.args.count (span_bytes c.args.bytes))))
+    rw (← c.self.view_is, c.put.ensures.slots, c.cut.ensures, c.in-Act.is) (written_world (stored_in c.self.inside) c.self.invariant c.args.pipe
+    (after_those (take c.args.count (span_bytes c.args.bytes))))
 
 pub returns-in-Parked-clause-world : goal.returns-in-Parked-clause-world
 returns-in-Parked-clause-world c =
     rw (← c.self.view_is, c.put-in-Parked.ensures.slots, c.parked_bytes.ensures, c.in-Parked.is)
-    (written_world (stored_in c.self.inside) c.self.invariant c.args.pipe (after_those (take c.args.count (rest_of (parked_of (slot c.self.inside.processes.0 c.in-Parked.process))))))
+    (written_world (stored_in c.self.inside) c.self.invariant c.args.pipe
+    (after_those (take c.args.count (rest_of (parked_of (slot c.self.inside.processes.0 c.in-Parked.process))))))

@@ -12,7 +12,8 @@ move_name-requires-clause-there c =
     let w = c.args.self.now.world in
     let freed = c.free_name.ensures.world ∙ ap (λ n. sweep (record w { names = without_name n w.names })) c.as_slice.ensures.value in
     let names : c.free_name.new.self.world.names ≡ without_name c.args.new w.names = ap (λ (x : World). x.names) freed in
-    ap (λ es. is_some (file_of c.args.old.now es)) names ∙ (ap is_some (other_name c.args.new c.args.old.now w.names (λ same. c.requires.apart (sym same))) ∙ c.requires.there)
+    ap (λ es. is_some (file_of c.args.old.now es)) names ∙ (ap is_some (other_name c.args.new c.args.old.now w.names (λ same. c.requires.apart (sym same))) ∙
+    c.requires.there)
 
 pub move_name-requires-clause-new : goal.move_name-requires-clause-new
 move_name-requires-clause-new c =

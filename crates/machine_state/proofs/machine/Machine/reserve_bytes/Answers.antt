@@ -4,7 +4,8 @@ use Rattle.machine_state.proofs.StoredLaws.{after_bytes}
 use Rattle.machine_state.proofs.machine.Machine.reserve_bytes.Goals as goal
 
 pub invariant_of-self : goal.invariant_of-self
-invariant_of-self c = rw c.reserve_bytes.ensures.slots.1 (after_bytes (stored_in c.self.inside) c.self.invariant c.args.file (λ bytes. bytes) c.reserve_bytes.ensures.slots.0)
+invariant_of-self c = rw c.reserve_bytes.ensures.slots.1 (after_bytes (stored_in c.self.inside) c.self.invariant c.args.file
+    (λ bytes. bytes) c.reserve_bytes.ensures.slots.0)
 
 pub returns-clause-world : goal.returns-clause-world
 returns-clause-world c = rw c.reserve_bytes.ensures.files (ap (λ m. m.world) c.self.view_is)

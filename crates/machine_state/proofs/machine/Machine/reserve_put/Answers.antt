@@ -14,18 +14,21 @@ pub invariant_of-self : goal.invariant_of-self
 invariant_of-self c = rw c.reserve_bytes.ensures.slots.1 (after_block (stored_in c.self.inside) c.self.invariant c.args.pipe c.reserve_bytes.ensures.slots.0)
 
 pub returns-clause-world : goal.returns-clause-world
-returns-clause-world c = rw (← c.self.view_is, c.reserve_bytes.ensures.slots.1) (block_world (stored_in c.self.inside) c.self.invariant c.args.pipe c.reserve_bytes.ensures.slots.0)
+returns-clause-world c = rw (← c.self.view_is, c.reserve_bytes.ensures.slots.1)
+    (block_world (stored_in c.self.inside) c.self.invariant c.args.pipe c.reserve_bytes.ensures.slots.0)
 
 pub returns-clause-room : goal.returns-clause-room
 returns-clause-room c =
     let after = record (stored_in c.self.inside) { pipes = c.reserve_bytes.new.self.0 } in
-    let all : IsConsistent after = rw c.reserve_bytes.ensures.slots.1 (after_block (stored_in c.self.inside) c.self.invariant c.args.pipe c.reserve_bytes.ensures.slots.0) in
+    let all : IsConsistent after = rw c.reserve_bytes.ensures.slots.1
+    (after_block (stored_in c.self.inside) c.self.invariant c.args.pipe c.reserve_bytes.ensures.slots.0) in
     on_ok_weaker c.reserve_bytes.result (put_room after all c.args.pipe c.args.count) c.reserve_bytes.ensures.places
 
 pub returns-clause-kept : goal.returns-clause-kept
 returns-clause-kept c =
     let spare = c.self.inside.spare in
-    let same : pipe_room c.reserve_bytes.new.self.1 spare ≡ pipe_room c.self.inside.pipes.1 spare = ap (λ places. pipe_room places spare) c.reserve_bytes.ensures.room in
+    let same : pipe_room c.reserve_bytes.new.self.1 spare ≡ pipe_room c.self.inside.pipes.1 spare =
+    ap (λ places. pipe_room places spare) c.reserve_bytes.ensures.room in
     let pipes : pipe_room c.self.inside.pipes.1 spare ≤ pipe_room c.reserve_bytes.new.self.1 spare = omega (arith, same) in
     rw (← c.self.view_is) (record {
       files = omega arith;

@@ -23,12 +23,31 @@ pub invariant_of-self : goal.invariant_of-self
 invariant_of-self c =
     let can = rw (← c.self.view_is) at c.requires.fits in
     let theirs = rw (← c.self.view_is) at c.requires.theirs in
-    rw (c.release.ensures.pipes, c.release.ensures.files, c.drop_entry-dropped.ensures.told, c.drop_entry-dropped.ensures.slots, c.set_fd-old.ensures.old, c.set_fd-old.ensures.slots, c.hold_entry.ensures.slots)
-    (is_set (stored_in c.self.inside) c.self.invariant c.args.process c.args.fd c.args.entry can c.sweep_releases.ensures.stays c.sweep_releases.ensures.releases c.sweep_leaves_wanted.ensures theirs).consistent
+    rw (
+      c.release.ensures.pipes,
+      c.release.ensures.files,
+      c.drop_entry-dropped.ensures.told,
+      c.drop_entry-dropped.ensures.slots,
+      c.set_fd-old.ensures.old,
+      c.set_fd-old.ensures.slots,
+      c.hold_entry.ensures.slots,
+    )
+    (is_set (stored_in c.self.inside) c.self.invariant c.args.process c.args.fd c.args.entry can c.sweep_releases.ensures.stays
+    c.sweep_releases.ensures.releases c.sweep_leaves_wanted.ensures theirs).consistent
 
 pub returns-clause-world : goal.returns-clause-world
 returns-clause-world c =
     let can = rw (← c.self.view_is) at c.requires.fits in
     let theirs = rw (← c.self.view_is) at c.requires.theirs in
-    rw (← c.self.view_is, c.release.ensures.pipes, c.release.ensures.files, c.drop_entry-dropped.ensures.told, c.drop_entry-dropped.ensures.slots, c.set_fd-old.ensures.old, c.set_fd-old.ensures.slots, c.hold_entry.ensures.slots)
-    (is_set (stored_in c.self.inside) c.self.invariant c.args.process c.args.fd c.args.entry can c.sweep_releases.ensures.stays c.sweep_releases.ensures.releases c.sweep_leaves_wanted.ensures theirs).world
+    rw (
+      ← c.self.view_is,
+      c.release.ensures.pipes,
+      c.release.ensures.files,
+      c.drop_entry-dropped.ensures.told,
+      c.drop_entry-dropped.ensures.slots,
+      c.set_fd-old.ensures.old,
+      c.set_fd-old.ensures.slots,
+      c.hold_entry.ensures.slots,
+    )
+    (is_set (stored_in c.self.inside) c.self.invariant c.args.process c.args.fd c.args.entry can c.sweep_releases.ensures.stays
+    c.sweep_releases.ensures.releases c.sweep_leaves_wanted.ensures theirs).world

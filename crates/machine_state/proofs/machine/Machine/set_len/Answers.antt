@@ -10,9 +10,15 @@ set_len-requires-clause-there c = regular_there c.self.inside.files.0 c.args.fil
 
 pub invariant_of-self : goal.invariant_of-self
 invariant_of-self c =
-    rw c.set_len.ensures.slots.1 (after_bytes (stored_in c.self.inside) c.self.invariant c.args.file (λ bytes. resized bytes c.args.len) c.set_len.ensures.slots.0)
+    rw c.set_len.ensures.slots.1 (after_bytes (stored_in c.self.inside) c.self.invariant c.args.file
+    (λ bytes. resized bytes c.args.len) c.set_len.ensures.slots.0)
 
 pub returns-clause-world : goal.returns-clause-world
 returns-clause-world c =
     let there = rw (← c.self.view_is) at c.requires.there in
-    rw (← c.self.view_is, c.set_len.ensures.slots.1, files_written c.self.inside.files.0 c.args.file (λ bytes. resized bytes c.args.len) c.set_len.ensures.slots.0 there) refl
+    rw (
+      ← c.self.view_is,
+      c.set_len.ensures.slots.1,
+      files_written c.self.inside.files.0 c.args.file
+          (λ bytes. resized bytes c.args.len) c.set_len.ensures.slots.0 there,
+    ) refl

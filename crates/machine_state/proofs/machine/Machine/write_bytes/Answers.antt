@@ -11,9 +11,15 @@ write-requires-clause-there c = regular_there c.self.inside.files.0 c.args.file 
 
 pub invariant_of-self : goal.invariant_of-self
 invariant_of-self c =
-    rw c.write.ensures.slots.1 (after_bytes (stored_in c.self.inside) c.self.invariant c.args.file (λ bytes. splice bytes c.args.start (span_bytes c.args.bytes)) c.write.ensures.slots.0)
+    rw c.write.ensures.slots.1 (after_bytes (stored_in c.self.inside) c.self.invariant c.args.file
+    (λ bytes. splice bytes c.args.start (span_bytes c.args.bytes)) c.write.ensures.slots.0)
 
 pub returns-clause-world : goal.returns-clause-world
 returns-clause-world c =
     let there = rw (← c.self.view_is) at c.requires.there in
-    rw (← c.self.view_is, c.write.ensures.slots.1, files_written c.self.inside.files.0 c.args.file (λ bytes. splice bytes c.args.start (span_bytes c.args.bytes)) c.write.ensures.slots.0 there) refl
+    rw (
+      ← c.self.view_is,
+      c.write.ensures.slots.1,
+      files_written c.self.inside.files.0 c.args.file
+          (λ bytes. splice bytes c.args.start (span_bytes c.args.bytes)) c.write.ensures.slots.0 there,
+    ) refl

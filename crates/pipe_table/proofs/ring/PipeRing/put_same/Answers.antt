@@ -12,12 +12,21 @@ loop-left-preserved c =
     let within : here ≤ left = omega arith in
     let put : c.put_all.new.self.bytes ≡ before ++ replicate here byte = c.put_all.ensures.bytes ∙ ap (λ xs. before ++ xs) (take-replicate here 512 byte few) in
     let all : here + (left - here) ≡ left = omega arith in
-    let joined : replicate here byte ++ replicate (left - here) byte ≡ replicate left byte = replicate-append-replicate here (left - here) byte ∙ ap (λ n. replicate n byte) all in
+    let joined : replicate here byte ++ replicate (left - here) byte ≡ replicate left byte = replicate-append-replicate here (left - here) byte ∙
+    ap (λ n. replicate n byte) all in
     let shown : c.put_all.new.self.bytes ++ replicate (left - here) byte ≡ before ++ replicate left byte =
-    ap (λ xs. xs ++ replicate (left - here) byte) put ∙ (append_assoc before (replicate here byte) (replicate (left - here) byte) ∙ ap (λ xs. before ++ xs) joined) in
+    ap (λ xs. xs ++ replicate (left - here) byte) put ∙ (append_assoc before (replicate here byte) (replicate (left - here) byte) ∙
+    ap (λ xs. before ++ xs) joined) in
     record {
       bytes = shown ∙ c.loop-left.invariant.bytes;
       capacity = c.put_all.ensures.capacity ∙ c.loop-left.invariant.capacity;
       block = c.put_all.ensures.block ∙ c.loop-left.invariant.block;
-      places = omega (arith, c.loop-left.invariant.places, ap length put, length-append before (replicate here byte), length-replicate here byte, c.put_all.ensures.block);
+      places = omega (
+        arith,
+        c.loop-left.invariant.places,
+        ap length put,
+        length-append before (replicate here byte),
+        length-replicate here byte,
+        c.put_all.ensures.block,
+      );
     }

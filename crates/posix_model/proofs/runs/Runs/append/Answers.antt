@@ -12,7 +12,8 @@ invariant_of-self-2 c =
     let runs = c.self.inside.runs.items in
     let run = c.in_ok-run.run' in
     let added : all_bytes c.push.new.self.items ≡ all_bytes runs ++ run_bytes run = ap all_bytes c.in_ok-push.ensures.items ∙ one_run_more runs run in
-    let long : length (all_bytes c.push.new.self.items) ≡ length (all_bytes runs) + length (run_bytes run) = ap length added ∙ length-append (all_bytes runs) (run_bytes run) in
+    let long : length (all_bytes c.push.new.self.items) ≡ length (all_bytes runs) + length (run_bytes run) = ap length added ∙
+    length-append (all_bytes runs) (run_bytes run) in
     let same : length (run_bytes run) ≡ length (span_bytes c.args.new) = ap length c.in_ok-run.ensures in
     let fits : length (all_bytes runs) + length (span_bytes c.args.new) < 2 ^ 63 = rw (← c.self.view_is) at c.requires in
     (omega (arith, long, same, c.self.invariant.0), omega (arith, fits, c.self.invariant.0))

@@ -7,5 +7,8 @@ use Rattle.record_book.proofs.book.Book.close_run.Goals as goal
 pub returns-clause-closes : goal.returns-clause-closes
 returns-clause-closes g c =
     let is_it : c.is_closed.result ≡ (world_now c.args.self.now).closed = c.is_closed.ensures ∙ ap (λ b. (world_now b).closed) c.self.view_is in
-    let stays_open : (world_now c.args.self.now).closed ≡ false = sym is_it ∙ c.if-is_closed.false in
-    (stays_open, ends_as_one c.args.self.now c.end_orphans.new.self c.record_closing-house.new.self (closing_record ∷ []) c.record_closing-house.result c.end_orphans.ensures c.record_closing-house.ensures)
+    let stays_open : (world_now c.args.self.now).closed ≡ false = sym is_it ∙ c.if-is_closed.false in (
+      stays_open,
+      ends_as_one c.args.self.now c.end_orphans.new.self c.record_closing-house.new.self (closing_record ∷ []) c.record_closing-house.result
+          c.end_orphans.ensures c.record_closing-house.ensures,
+    )

@@ -5,5 +5,6 @@ pub returns-clause-sums : goal.returns-clause-sums
 returns-clause-sums g c =
     let inside = c.self.inside in
     rw (← c.self.view_is)
-    (counts_of c.bytes_of_pipe.ensures.bytes c.bytes_of_pipe.ensures.small inside.journal inside.tallies inside.house c.sums.result c.self.invariant c.is_run.ensures.is_legal c.is_run.ensures.reserve
+    (counts_of c.bytes_of_pipe.ensures.bytes c.bytes_of_pipe.ensures.small inside.journal inside.tallies inside.house c.sums.result c.self.invariant
+    c.is_run.ensures.is_legal c.is_run.ensures.reserve
     c.sums.ensures.records c.sums.ensures.bytes_in c.sums.ensures.bytes_out)

@@ -7,7 +7,8 @@ pub invariant_of-self : goal.invariant_of-self
 invariant_of-self g c =
     let has : c.self.inside.house ≡ Some c.in-Some.shares = sym c.take.ensures.value ∙ c.in-Some.is in
     rw c.take.ensures.after
-    (counts_closing c.self.inside.journal c.append_closing-receipts.new.self c.self.inside.tallies c.count.new.self c.in-Some.shares c.append_closing-receipts.result.items (rw has at c.self.invariant)
+    (counts_closing c.self.inside.journal c.append_closing-receipts.new.self c.self.inside.tallies c.count.new.self c.in-Some.shares
+    c.append_closing-receipts.result.items (rw has at c.self.invariant)
     c.append_closing-receipts.ensures.shut c.count.ensures.tallies)
 
 pub returns : goal.returns
@@ -21,7 +22,8 @@ returns g c =
       pid = refl;
       seen = c.len.ensures;
       receipts = shut.receipts_are;
-      counts = house_counts c.self.inside.journal c.append_closing-receipts.new.self c.in-Some.shares c.count.new.shares c.append_closing-receipts.result.items c.self.inside.tallies (rw has at c.self.invariant) shut
+      counts = house_counts c.self.inside.journal c.append_closing-receipts.new.self c.in-Some.shares c.count.new.shares c.append_closing-receipts.result.items
+          c.self.inside.tallies (rw has at c.self.invariant) shut
           c.count.ensures.shares;
       given_away = shut.given_away;
     })
@@ -31,6 +33,7 @@ pub invariant_of-result : goal.invariant_of-result
 invariant_of-result g c =
     let has : c.self.inside.house ≡ Some c.in-Some.shares = sym c.take.ensures.value ∙ c.in-Some.is in
     let receipts = c.append_closing-receipts.result.items in
-    let counts = house_counts c.self.inside.journal c.append_closing-receipts.new.self c.in-Some.shares c.count.new.shares receipts c.self.inside.tallies (rw has at c.self.invariant) c.append_closing-receipts.ensures.shut
+    let counts = house_counts c.self.inside.journal c.append_closing-receipts.new.self c.in-Some.shares c.count.new.shares receipts c.self.inside.tallies
+    (rw has at c.self.invariant) c.append_closing-receipts.ensures.shut
     c.count.ensures.shares in
     own_quiet receipts c.count.new.shares counts c.append_closing-receipts.ensures.quiet

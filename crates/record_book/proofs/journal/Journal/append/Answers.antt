@@ -50,13 +50,16 @@ invariant_of-self-2 c =
       limits = refl;
       world = rw (c.push.ensures.world, item_is, c.in_ok-reserve_for.ensures.world, c.self.invariant.world) refl;
       capacity = c.push.ensures.pipes ∙ c.in_ok-reserve_for.ensures.capacity;
-      exits = rw (c.keep_exit.ensures, prepared_is, c.in_ok-prepared.ensures.exits, c.self.invariant.exits, w_is) (sym (exits_changed w (given r.act) c.args.decided.change none));
+      exits = rw (c.keep_exit.ensures, prepared_is, c.in_ok-prepared.ensures.exits, c.self.invariant.exits, w_is)
+          (sym (exits_changed w (given r.act) c.args.decided.change none));
       closing =
           c.in_ok-prepared.ensures.house.closing ∙ c.self.invariant.closing ∙ ap prepared_closing w_is ∙
           ap (λ b. cond b None (Some closing_record)) (sym (closed_same w next (ended r.act) (adds w r.act) (closes r.act) planned.counts c.requires.closes));
       house =
-          let grown = house_grows b.house _ (live w.processes) (adds w r.act) c.in_ok-prepared.prepared c.in_ok-prepared.ensures.house (rw (← w_is) c.self.invariant.house)
-          (λ some. rw (← live_is) (c.in_ok-prepared.ensures.house_room some)) (sym planned.told.planned ∙ rw prepared_is (prepared_count (length w.processes) c.args.decided.change.process)) in
+          let grown = house_grows b.house _ (live w.processes) (adds w r.act) c.in_ok-prepared.prepared c.in_ok-prepared.ensures.house
+          (rw (← w_is) c.self.invariant.house)
+          (λ some. rw (← live_is) (c.in_ok-prepared.ensures.house_room some)) (sym planned.told.planned ∙
+          rw prepared_is (prepared_count (length w.processes) c.args.decided.change.process)) in
           let living : live next.processes ≡ live w.processes + adds w r.act = omega (arith, planned.counts.living, c.requires.ends) in
           rw living grown;
     })
@@ -79,7 +82,13 @@ returns-clause-moved c =
     let item_is : arc_value c.in_ok-made.made.item ≡ r = c.in_ok-made.ensures.item in
     let told_is : c.in_ok-made.made.receipt.record_is ≡ r = c.in_ok-made.ensures.receipt in
     let w_is : b.machine.world ≡ w = c.self.invariant.world in
-    let took_is : c.bytes_moved-moved.result.bytes_in ≡ took w r = rw (c.bytes_moved-moved.ensures.bytes_in, c.deref.ensures, item_is, c.in_ok-reserve_for.ensures.world, w_is) refl in
+    let took_is : c.bytes_moved-moved.result.bytes_in ≡ took w r = rw (
+      c.bytes_moved-moved.ensures.bytes_in,
+      c.deref.ensures,
+      item_is,
+      c.in_ok-reserve_for.ensures.world,
+      w_is,
+    ) refl in
     let gave_is : c.bytes_moved-moved.result.bytes_out ≡ gave w r = rw (c.bytes_moved-moved.ensures.bytes_out w, c.deref.ensures, item_is) refl in
     rw (← c.self.view_is) (record {
       shared = c.in_ok-made.ensures.shared;

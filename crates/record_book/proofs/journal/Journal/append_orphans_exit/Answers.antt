@@ -11,7 +11,8 @@ use Rattle.record_book.proofs.journal.Journal.append_orphans_exit.Goals as goal
 
 pub end_process-receipt-requires-clause-prepared : goal.end_process-receipt-requires-clause-prepared
 end_process-receipt-requires-clause-prepared c =
-    let there : is_some (slot c.self.inside.machine.world.processes c.args.process) ≡ true = rw c.self.invariant.world (rw (← c.self.view_is) at c.requires.there) in
+    let there : is_some (slot c.self.inside.machine.world.processes c.args.process) ≡ true =
+    rw c.self.invariant.world (rw (← c.self.view_is) at c.requires.there) in
     rw c.self.invariant.exits (prepared_there c.self.inside.machine.world.processes c.args.process there)
 
 pub invariant_of-self : goal.invariant_of-self
@@ -22,7 +23,8 @@ invariant_of-self c = journal_ends c.self.inside _ c.args.process c.self.invaria
   capacity = c.end_process-receipt.ensures.pipes;
   exits = c.end_process-receipt.ensures.exits;
   closing = rw c.in-Some.is refl;
-  house = λ k less. let room = rw c.in-Some.is at c.self.invariant.house in omega (arith, less, room, c.push_reserved.ensures.len, c.push_reserved.ensures.capacity);
+  house = λ k less. let room = rw c.in-Some.is at c.self.invariant.house in
+      omega (arith, less, room, c.push_reserved.ensures.len, c.push_reserved.ensures.capacity);
 })
 
 pub returns : goal.returns

@@ -16,6 +16,7 @@ returns c =
     let at_now : c.self.inside.machine.world ≡ world_now b = c.self.invariant.world ∙ ap world_now c.self.view_is in
     let count : c.live_processes.result + c.call_adds.result ≡ live (world_now b).processes + adds (world_now b) a =
     rw (c.live_processes.ensures, c.call_adds.ensures.exact) (ap (λ w. live w.processes + adds w a) at_now) in
-    let exits : (if (world_now b).closed then c.live_processes.result + c.call_adds.result else c.live_processes.result + c.call_adds.result + 1) ≡ exits_left (world_after b c.args.process a) =
+    let exits : (if (world_now b).closed then c.live_processes.result + c.call_adds.result else c.live_processes.result + c.call_adds.result + 1) ≡ exits_left
+    (world_after b c.args.process a) =
     rw count (sym same) in
     c.overfills.ensures ∙ ap (λ (n : ℕ). not (nat_le ((length b.history + 1) + n) b.limits.records)) exits

@@ -14,7 +14,10 @@ loop-request-preserved g c = record {
 
 pub returns-in-Err-clause-full : goal.returns-in-Err-clause-full
 returns-in-Err-clause-full g c =
-    let all = YieldsList-from_vec c.args.requests.items c.into_iter-request-iterator.ensures.into_iter_gives.0 (c.into_iter-request-iterator.ensures.into_iter_gives.1 ∙ c.args.requests.ok.0) in
-    let at = YieldsList-turn all c.loop-request.yielded c.loop-request.request-iterator c.loop-request.yielded_by c.next.result c.next.new.self c.in-Some.request c.in-Some.is c.next.ensures.steps in
+    let all = YieldsList-from_vec c.args.requests.items c.into_iter-request-iterator.ensures.into_iter_gives.0
+    (c.into_iter-request-iterator.ensures.into_iter_gives.1 ∙ c.args.requests.ok.0) in
+    let at = YieldsList-turn all c.loop-request.yielded c.loop-request.request-iterator c.loop-request.yielded_by c.next.result c.next.new.self
+    c.in-Some.request c.in-Some.is c.next.ensures.steps in
     let so_far = sym (map-id c.loop-request.yielded) ∙ YieldsList-so_far all c.loop-request.yielded c.loop-request.request-iterator c.loop-request.yielded_by in
-    laws.handed_back _ _ _ _ c.args.requests.items c.loop-request.yielded _ c.in-Some.request _ c.loop-request.invariant.sent (laws.next_of c.args.requests.items c.loop-request.yielded c.in-Some.request so_far at.0 at.1) c.in-Err.ensures.full
+    laws.handed_back _ _ _ _ c.args.requests.items c.loop-request.yielded _ c.in-Some.request _ c.loop-request.invariant.sent
+    (laws.next_of c.args.requests.items c.loop-request.yielded c.in-Some.request so_far at.0 at.1) c.in-Err.ensures.full

@@ -7,13 +7,14 @@ use Rattle.script_run.proofs.progress.Progress.append_exit.Goals as goal
 
 pub invariant_of-self : goal.invariant_of-self
 invariant_of-self c = record {
-  run = run_grows (state_of c.self.inside) _ c.args.process act.Exit c.decide_exit-decided.result c.self.invariant.run (rw (← c.self.view_is) at c.is_planned.ensures) (record {
-    limits = refl;
-    world = c.push.ensures.world;
-    records = ap (λ (x : Sums). x.records) c.push.ensures.counts;
-    few_in = c.push.ensures.bytes_in;
-    few_out = c.push.ensures.bytes_out;
-  });
+  run = run_grows (state_of c.self.inside) _ c.args.process act.Exit c.decide_exit-decided.result c.self.invariant.run
+      (rw (← c.self.view_is) at c.is_planned.ensures) (record {
+        limits = refl;
+        world = c.push.ensures.world;
+        records = ap (λ (x : Sums). x.records) c.push.ensures.counts;
+        few_in = c.push.ensures.bytes_in;
+        few_out = c.push.ensures.bytes_out;
+      });
   capacity = c.push.ensures.pipes ∙ c.self.invariant.capacity;
 }
 

@@ -18,6 +18,7 @@ returns c =
     let at_now : c.self.inside.machine.world ≡ s.world = ap (λ (r : RunState). r.world) c.self.view_is in
     let count : c.live_processes.result + c.call_adds.result ≡ live s.world.processes + adds s.world a =
     rw (c.live_processes.ensures, c.call_adds.ensures.exact) (ap (λ (w : World). live w.processes + adds w a) at_now) in
-    let exits : (if s.world.closed then c.live_processes.result + c.call_adds.result else c.live_processes.result + c.call_adds.result + 1) ≡ exits_left (after_act s.limits.bounds s.world c.args.process a) =
+    let exits : (if s.world.closed then c.live_processes.result + c.call_adds.result else c.live_processes.result + c.call_adds.result + 1) ≡ exits_left
+    (after_act s.limits.bounds s.world c.args.process a) =
     rw count (sym same) in
     c.overfills.ensures ∙ ap (λ (n : ℕ). not (nat_le ((s.counts.records + 1) + n) s.limits.records)) exits

@@ -19,8 +19,15 @@ loop-process-preserved c =
           let made = w.append_exit.ensures.grows in
           let waits : awaits (slot now.world.processes n) ≡ true = sym c.awaits.ensures ∙ w.if-awaits.true in
           rw (w.self-is, w.told-is) (record {
-            so_far = rw w.push_reserved.ensures.items (orphan_ended planned old now new c.args.told.now.items c.loop-process.told.items n w.append_exit.result is.so_far below waits made w.append_exit.ensures.record_is);
-            room = omega (arith, w.push_reserved.ensures.len, w.push_reserved.ensures.capacity, is.room, live_ended planned now new n w.append_exit.result made);
+            so_far = rw w.push_reserved.ensures.items (orphan_ended planned old now new c.args.told.now.items c.loop-process.told.items n w.append_exit.result
+                is.so_far below waits made w.append_exit.ensures.record_is);
+            room = omega (
+              arith,
+              w.push_reserved.ensures.len,
+              w.push_reserved.ensures.capacity,
+              is.room,
+              live_ended planned now new n w.append_exit.result made,
+            );
             numbers = number_ended now new n w.append_exit.result made ∙ is.numbers;
           })
       | else-awaits w ↦

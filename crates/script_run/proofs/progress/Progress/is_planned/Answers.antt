@@ -5,5 +5,7 @@ use Rattle.script_run.proofs.progress.Progress.is_planned.Goals as goal
 
 pub returns : goal.returns
 returns c =
-    plans c.acts_are_sound.ensures c.processes_are_counted.ensures.planned c.numbers_rise.ensures.step_whole c.args.self.now c.args.actor c.args.act.now c.args.decided.now
-    (subst IsRun c.self.view_is c.self.invariant.run) (rw (← c.self.view_is, ← c.bounds-bounds.ensures.exact) c.bounds-bounds.ensures.small) c.requires.comes c.requires.roomy
+    plans c.acts_are_sound.ensures c.processes_are_counted.ensures.planned c.numbers_rise.ensures.step_whole c.args.self.now c.args.actor c.args.act.now
+    c.args.decided.now
+    (subst IsRun c.self.view_is c.self.invariant.run) (rw (← c.self.view_is, ← c.bounds-bounds.ensures.exact) c.bounds-bounds.ensures.small) c.requires.comes
+    c.requires.roomy

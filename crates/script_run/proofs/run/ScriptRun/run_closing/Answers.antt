@@ -23,8 +23,10 @@ returns-clause-tells c b seats fits =
     let open_now : s.world.closed ≡ false = sym c.is_closed.ensures ∙ c.if-is_closed.false in
     let ends : OrphansEnd s c.end_orphans.new.self [] exits = rw (c.replace-told.ensures.value, c.self.invariant.none) at c.end_orphans.ensures.ends in
     let closes : ClosesBy s t (exits ++ c.append_closing.result ∷ []) =
-    closes_by c.processes_are_counted.ensures.planned s c.end_orphans.new.self t exits c.append_closing.result open_now ends c.append_closing.ensures.grows c.append_closing.ensures.record_is in
-    closing_to b seats s t c.push_reserved.new.self (subst (FitsRun b seats) (sym c.self.view_is) fits) (subst (ClosesBy s t) (sym c.push_reserved.ensures.items) closes)
+    closes_by c.processes_are_counted.ensures.planned s c.end_orphans.new.self t exits c.append_closing.result open_now ends c.append_closing.ensures.grows
+    c.append_closing.ensures.record_is in
+    closing_to b seats s t c.push_reserved.new.self (subst (FitsRun b seats) (sym c.self.view_is) fits)
+    (subst (ClosesBy s t) (sym c.push_reserved.ensures.items) closes)
 
 pub returns-clause-limits : goal.returns-clause-limits
 returns-clause-limits c =
@@ -34,5 +36,6 @@ returns-clause-limits c =
     let open_now : s.world.closed ≡ false = sym c.is_closed.ensures ∙ c.if-is_closed.false in
     let ends : OrphansEnd s c.end_orphans.new.self [] exits = rw (c.replace-told.ensures.value, c.self.invariant.none) at c.end_orphans.ensures.ends in
     let closes : ClosesBy s t (exits ++ c.append_closing.result ∷ []) =
-    closes_by c.processes_are_counted.ensures.planned s c.end_orphans.new.self t exits c.append_closing.result open_now ends c.append_closing.ensures.grows c.append_closing.ensures.record_is in
+    closes_by c.processes_are_counted.ensures.planned s c.end_orphans.new.self t exits c.append_closing.result open_now ends c.append_closing.ensures.grows
+    c.append_closing.ensures.record_is in
     closes_limits s t (exits ++ c.append_closing.result ∷ []) closes ∙ ap (λ (x : RunState). x.limits) c.self.view_is

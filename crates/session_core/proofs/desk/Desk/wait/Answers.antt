@@ -8,12 +8,15 @@ pub invariant_of-self : goal.invariant_of-self
 invariant_of-self g c =
     let waited = c.wait_ready-standing.ensures in
     let taken = received c.self.inside.consumer in
-    let stood = subst (StandsThere c.self.inside.front g.K.Kernel.says g.W.Connection.was_shut g.D.Naming.base taken c.self.inside.output) (sym c.in-Some.ensures.value) c.self.invariant.1 in (
+    let stood = subst (StandsThere c.self.inside.front g.K.Kernel.says g.W.Connection.was_shut g.D.Naming.base taken c.self.inside.output)
+    (sym c.in-Some.ensures.value) c.self.invariant.1 in (
       c.self.invariant.0,
-      subst (StandsThere c.wait_ready-standing.new.front g.K.Kernel.says g.W.Connection.was_shut g.D.Naming.base taken c.wait_ready-standing.new.output) (sym c.put_back.ensures.place)
+      subst (StandsThere c.wait_ready-standing.new.front g.K.Kernel.says g.W.Connection.was_shut g.D.Naming.base taken c.wait_ready-standing.new.output)
+          (sym c.put_back.ensures.place)
           (λ h p. waited.stands taken h p g.D.Naming.base (stood h (waited.grows h p))),
     )
 
 pub unreachable-requires : goal.unreachable-requires
 unreachable-requires g c =
-    laws.there c.self.inside.front g.K.Kernel.says g.W.Connection.was_shut g.D.Naming.base (received c.self.inside.consumer) c.self.inside.output c.self.inside.standing c.self.invariant.1 (sym c.take.ensures.value ∙ c.in_default.is)
+    laws.there c.self.inside.front g.K.Kernel.says g.W.Connection.was_shut g.D.Naming.base (received c.self.inside.consumer) c.self.inside.output
+    c.self.inside.standing c.self.invariant.1 (sym c.take.ensures.value ∙ c.in_default.is)

@@ -10,12 +10,14 @@ returns-then-entry-number g c =
       there = sym c.in-Some.ensures;
       number = c.if-entry-number.true ∙ c.number.ensures;
     } in
-    rw (← c.self.view_is) (sym (stands_at c.self.inside.next c.self.inside.entries.slots c.args.ticket.now c.key.result c.self.invariant hit c.in-Some.entry.now (sym c.in-Some.ensures)))
+    rw (← c.self.view_is) (sym (stands_at c.self.inside.next c.self.inside.entries.slots c.args.ticket.now c.key.result c.self.invariant hit c.in-Some.entry.now
+    (sym c.in-Some.ensures)))
 
 pub returns-in-Some-search : goal.returns-in-Some-search
 returns-in-Some-search g c =
     let at = rw c.number-2.ensures at c.in-Some-search.ensures.there in
-    rw (← c.self.view_is) (sym (stands_at c.self.inside.next c.self.inside.entries.slots c.args.ticket.now c.in-Some-search.key c.self.invariant at c.index.result.now c.index.ensures))
+    rw (← c.self.view_is) (sym (stands_at c.self.inside.next c.self.inside.entries.slots c.args.ticket.now c.in-Some-search.key
+    c.self.invariant at c.index.result.now c.index.ensures))
 
 pub returns-in-None : goal.returns-in-None
 returns-in-None g c =

@@ -8,7 +8,8 @@ invariant_of-self g c = rw c.remove.ensures.items (rises_removed 0 c.self.inside
 pub returns-in-Ok-clause-value : goal.returns-in-Ok-clause-value
 returns-in-Ok-clause-value g c =
     let at = rw c.as_slice.ensures.value at (c.in-Ok.ensures.there) in
-    rw (← c.self.view_is) (sym (stands c.self.inside.next c.self.inside.entries.items c.args.number c.self.invariant c.in-Ok.index c.remove.result at c.remove.ensures.value))
+    rw (← c.self.view_is) (sym (stands c.self.inside.next c.self.inside.entries.items c.args.number c.self.invariant c.in-Ok.index
+    c.remove.result at c.remove.ensures.value))
 
 pub returns-in-Ok-clause-slots : goal.returns-in-Ok-clause-slots
 returns-in-Ok-clause-slots g c =

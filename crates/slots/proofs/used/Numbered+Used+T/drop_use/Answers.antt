@@ -19,16 +19,19 @@ returns-in-Err g c =
 pub invariant_of-self : goal.invariant_of-self
 invariant_of-self g c =
     let at = rw c.as_slice.ensures.value at (c.in-Ok.ensures.there) in
-    rises_edited c.self.inside.next c.self.inside.entries.items c.args.number c.self.invariant c.in-Ok.index c.index_mut.result.now _ at c.index_mut.ensures.value
+    rises_edited c.self.inside.next c.self.inside.entries.items c.args.number c.self.invariant c.in-Ok.index c.index_mut.result.now
+    _ at c.index_mut.ensures.value
 
 pub returns-then-index-gt1 : goal.returns-then-index-gt1
 returns-then-index-gt1 g c =
     let at = rw c.as_slice.ensures.value at (c.in-Ok.ensures.there) in
     let first = stands c.self.inside.next c.self.inside.entries.items c.args.number c.self.invariant c.in-Ok.index c.index.result.now at c.index.ensures in
-    let again = stands c.self.inside.next c.self.inside.entries.items c.args.number c.self.invariant c.in-Ok.index c.index_mut.result.now at c.index_mut.ensures.value in
+    let again = stands c.self.inside.next c.self.inside.entries.items c.args.number c.self.invariant c.in-Ok.index
+    c.index_mut.result.now at c.index_mut.ensures.value in
     let left = more_left c.index_mut.result.now.1 (omega (arith, ap uses_at (sym first ∙ again), c.if-index-gt1.true)) in
     rw (← c.self.view_is) (record {
-      slots = slots_edited c.self.inside.next c.self.inside.entries.items c.args.number c.self.invariant one_less c.in-Ok.index c.index_mut.result.now _ at c.index_mut.ensures.value left.slot;
+      slots = slots_edited c.self.inside.next c.self.inside.entries.items c.args.number c.self.invariant one_less c.in-Ok.index c.index_mut.result.now
+          _ at c.index_mut.ensures.value left.slot;
       room = same_room (room_of (vec_capacity c.self.inside.entries) (vec_len c.self.inside.entries) c.self.inside.next);
       most = one_more_room (room_of (vec_capacity c.self.inside.entries) (vec_len c.self.inside.entries) c.self.inside.next);
       last = rw again (sym left.lost);
@@ -44,7 +47,8 @@ returns g c =
     let again = stands c.self.inside.next c.self.inside.entries.items c.args.number c.self.invariant c.in-Ok.index c.remove.result at c.remove.ensures.value in
     let last = none_left c.remove.result.1 (λ more. omega (arith, more, ap uses_at (sym first ∙ again), c.if-index-gt1.false)) in
     rw (← c.self.view_is) (record {
-      slots = rw c.remove.ensures.items (slots_gone c.self.inside.next c.self.inside.entries.items c.args.number c.self.invariant one_less c.in-Ok.index c.remove.result at c.remove.ensures.value last.slot);
+      slots = rw c.remove.ensures.items (slots_gone c.self.inside.next c.self.inside.entries.items c.args.number c.self.invariant one_less c.in-Ok.index
+          c.remove.result at c.remove.ensures.value last.slot);
       room = (more_room _ _ (vec_len c.self.inside.entries) _ c.self.inside.next c.remove.ensures.capacity c.remove.ensures.len).0;
       most = (more_room _ _ (vec_len c.self.inside.entries) _ c.self.inside.next c.remove.ensures.capacity c.remove.ensures.len).1;
       last = rw again (sym last.lost);

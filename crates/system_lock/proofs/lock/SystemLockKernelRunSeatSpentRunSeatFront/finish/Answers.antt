@@ -9,7 +9,8 @@ use Rattle.system_lock.proofs.lock.SystemLockKernelRunSeatSpentRunSeatFront.fini
 pub returns-in-Ended-clause-ended : goal.returns-in-Ended-clause-ended
 returns-in-Ended-clause-ended g c h p =
     subst (λ (s : SeatState). IsEnded g.L.Ledgers.limits h s c.in-Ended.ended.seat c.in-Ended.ended.why) c.loop.invariant.seat
-    (c.in-Ended.ensures.ended h (subst (λ (l : List Record). IsPrefix l h) (c.front.ensures ∙ ap (λ (s : SystemState). s.book_is.history) c.deref.ensures) (c.catch_up.ensures.others h p)))
+    (c.in-Ended.ensures.ended h (subst (λ (l : List Record). IsPrefix l h) (c.front.ensures ∙ ap (λ (s : SystemState). s.book_is.history) c.deref.ensures)
+    (c.catch_up.ensures.others h p)))
 
 pub returns-in-Resumed-clause-grows : goal.returns-in-Resumed-clause-grows
 returns-in-Resumed-clause-grows g c h p = c.loop.invariant.grows h (c.catch_up.ensures.own h p)

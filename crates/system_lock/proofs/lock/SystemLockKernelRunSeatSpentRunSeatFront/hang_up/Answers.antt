@@ -6,4 +6,5 @@ use Rattle.system_lock.proofs.lock.SystemLockKernelRunSeatSpentRunSeatFront.hang
 
 pub returns-clause-ended : goal.returns-clause-ended
 returns-clause-ended g c h p =
-    c.hang_up-ended.ensures.ended h (subst (λ (l : List Record). IsPrefix l h) (c.front.ensures ∙ ap (λ (s : SystemState). s.book_is.history) c.deref.ensures) (c.catch_up.ensures.others h p))
+    c.hang_up-ended.ensures.ended h (subst (λ (l : List Record). IsPrefix l h) (c.front.ensures ∙ ap (λ (s : SystemState). s.book_is.history) c.deref.ensures)
+    (c.catch_up.ensures.others h p))

@@ -12,7 +12,8 @@ invariant_of-result g c =
     let limits = g.L.Ledgers.limits in
     let old = c.args.system.now.book_is in
     let known = owns_grown limits c.self.inside.front old.history c.self.inside.seat c.has_all_of.ensures c.self.invariant in
-    let after = owns_ended limits old c.hang_up-ended.new.self.book_is c.self.inside.seat c.hang_up-ended.result.seat c.hang_up-ended.result.why c.hang_up-ended.ensures.stood.limits_are known c.hang_up-ended.ensures.event in
+    let after = owns_ended limits old c.hang_up-ended.new.self.book_is c.self.inside.seat c.hang_up-ended.result.seat c.hang_up-ended.result.why
+    c.hang_up-ended.ensures.stood.limits_are known c.hang_up-ended.ensures.event in
     subst (λ (l : List Record). OwnsUnder limits l c.hang_up-ended.result.seat) (sym (c.again-front.ensures ∙ c.front.ensures)) after
 
 pub returns-clause-ended : goal.returns-clause-ended
@@ -21,4 +22,6 @@ returns-clause-ended g c h p =
     let old = c.args.system.now.book_is in
     let known = owns_grown limits c.self.inside.front old.history c.self.inside.seat c.has_all_of.ensures c.self.invariant in
     subst (λ (s : SeatState). IsEnded limits h s c.hang_up-ended.result.seat c.hang_up-ended.result.why) c.self.view_is
-    (hung_up_in limits h old c.hang_up-ended.new.self.book_is c.self.inside.seat c.hang_up-ended.result.seat c.hang_up-ended.result.why c.hang_up-ended.ensures.stood known c.hang_up-ended.ensures.part (c.hang_up-ended.ensures.grows h p) c.hang_up-ended.ensures.event c.hang_up-ended.ensures.due c.hang_up-ended.ensures.hangs_up.1)
+    (hung_up_in limits h old c.hang_up-ended.new.self.book_is c.self.inside.seat c.hang_up-ended.result.seat c.hang_up-ended.result.why
+    c.hang_up-ended.ensures.stood known c.hang_up-ended.ensures.part (c.hang_up-ended.ensures.grows h p) c.hang_up-ended.ensures.event
+    c.hang_up-ended.ensures.due c.hang_up-ended.ensures.hangs_up.1)

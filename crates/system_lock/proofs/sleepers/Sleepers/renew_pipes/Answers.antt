@@ -14,7 +14,8 @@ loop-at-preserved g c =
       i.0,
       length-set c.loop-at.self.pipes.items c.loop-at.at c.pipe_then.result ∙ i.1,
       λ f is.
-          rw (c.pipe_then.ensures) (laws.renewed_at c.args.book.now c.args.stirred f xs c.loop-at.self.pipes.items c.loop-at.at c.index.result.now c.index-in-loop-at.result.now below
+          rw (c.pipe_then.ensures) (laws.renewed_at c.args.book.now c.args.stirred f xs c.loop-at.self.pipes.items c.loop-at.at c.index.result.now
+          c.index-in-loop-at.result.now below
           (c.index.ensures ∙ ap (λ (l : List ℕ). get_or l c.loop-at.at c.index.result.now) i.0) c.index-in-loop-at.ensures (i.2 f is)),
     )
 
@@ -24,4 +25,5 @@ returns-clause-asleep g c = c.loop-at.invariant.0
 pub returns-clause-pipes : goal.returns-clause-pipes
 returns-clause-pipes g c = λ f is.
     let i = c.loop-at.invariant in
-    rw (i.0) (i.2 f is ∙ laws.all_renewed f (λ q. pipe_then c.args.book.now c.args.stirred q (f q)) c.args.self.now.asleep.items c.loop-at.at (omega (arith, c.loop-at-test.false, c.len-at-end.ensures, c.args.self.now.asleep.ok.0)))
+    rw (i.0) (i.2 f is ∙ laws.all_renewed f (λ q. pipe_then c.args.book.now c.args.stirred q (f q)) c.args.self.now.asleep.items c.loop-at.at
+    (omega (arith, c.loop-at-test.false, c.len-at-end.ensures, c.args.self.now.asleep.ok.0)))

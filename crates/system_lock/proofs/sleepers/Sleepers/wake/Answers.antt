@@ -12,7 +12,8 @@ returns g c =
     record {
       sound = record {
         none_wakes = rw (c.renew_pipes.ensures.asleep) c.wake_ready.ensures.none_wakes;
-        pipes = ◌∙◌ {A = List (Option ℕ)} pipes (laws.map_agrees (λ q. pipe_then b s q (pipe_in h.0 q)) (pipe_in b) (laws.pipe_known h.0 b s h.2) c.renew_pipes.new.self.asleep.items);
+        pipes = ◌∙◌ {A = List (Option ℕ)} pipes (laws.map_agrees (λ q. pipe_then b s q (pipe_in h.0 q)) (pipe_in b)
+            (laws.pipe_known h.0 b s h.2) c.renew_pipes.new.self.asleep.items);
       };
       others = ◌∙◌ {A = List ℕ} c.renew_pipes.ensures.asleep c.wake_ready.ensures.others;
     }

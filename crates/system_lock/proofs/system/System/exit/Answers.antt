@@ -14,8 +14,15 @@ wake_stirred-requires g c =
     record { left = (b, c.self.invariant.0, subst (λ (n : ℕ). SparesIn b new (stirred.Anybody n)) (sym c.pid-process.ensures) spares) }
 
 pub invariant_of-self : goal.invariant_of-self
-invariant_of-self g c = (c.wake_stirred.ensures.sound, search rules, search rules, search rules, c.add_exit.ensures c.self.inside.book c.exit-ended.new.book c.args.seat c.exit-ended.ensures.event c.self.invariant.4)
+invariant_of-self g c = (
+  c.wake_stirred.ensures.sound,
+  search rules,
+  search rules,
+  search rules,
+  c.add_exit.ensures c.self.inside.book c.exit-ended.new.book c.args.seat c.exit-ended.ensures.event c.self.invariant.4,
+)
 
 pub returns-clause-grows : goal.returns-clause-grows
 returns-clause-grows g c =
-    subst (λ (s : SystemState). Grows s.book_is.history c.exit-ended.new.book.history) c.self.view_is (exits_grow c.self.inside.book c.exit-ended.new.book c.args.seat c.exit-ended.result.seat c.exit-ended.result.why c.exit-ended.ensures.event)
+    subst (λ (s : SystemState). Grows s.book_is.history c.exit-ended.new.book.history) c.self.view_is
+    (exits_grow c.self.inside.book c.exit-ended.new.book c.args.seat c.exit-ended.result.seat c.exit-ended.result.why c.exit-ended.ensures.event)

@@ -20,7 +20,14 @@ wake_stirred-requires g c =
     c.pipe_waited-pipe.ensures ∙ (ap (λ (w : World). pipe_waited w c.pid-process.result) c.machine.ensures ∙ ap (pipe_in b) c.pid-process.ensures) in
     let is : c.at-stirred.result ≡ stirred_at s.pid (pipe_in b s.pid) =
     c.at-stirred.ensures ∙ (ap (λ (n : ℕ). stirred_at n c.pipe_waited-pipe.result) c.pid-process.ensures ∙ ap (stirred_at s.pid) pipe) in
-    record { left = (b, c.self.invariant.0, subst (SparesIn b new) (sym is) (c.events_spare.ensures.resumes b new s c.in-Resumed.seat c.in-Resumed.receipt c.in-Resumed.ensures.event.1)) }
+    record {
+      left = (
+        b,
+        c.self.invariant.0,
+        subst (SparesIn b new) (sym is)
+            (c.events_spare.ensures.resumes b new s c.in-Resumed.seat c.in-Resumed.receipt c.in-Resumed.ensures.event.1),
+      );
+    }
 
 pub wake_stirred-requires-in-Ended : goal.wake_stirred-requires-in-Ended
 wake_stirred-requires-in-Ended g c =
@@ -34,13 +41,20 @@ pub returns-in-Ended-clause-given_up : goal.returns-in-Ended-clause-given_up
 returns-in-Ended-clause-given_up g c = λ is. absurd (c.in-Ended.ensures.not_lost is)
 
 pub invariant_of-self-in-Ended : goal.invariant_of-self-in-Ended
-invariant_of-self-in-Ended g c =
-    (c.wake_stirred-in-Ended.ensures.sound, search rules, search rules, search rules, c.add_exit.ensures c.self.inside.book c.resume.new.book c.args.seat c.in-Ended.ensures.event.0 c.self.invariant.4)
+invariant_of-self-in-Ended g c = (
+  c.wake_stirred-in-Ended.ensures.sound,
+  search rules,
+  search rules,
+  search rules,
+  c.add_exit.ensures c.self.inside.book c.resume.new.book c.args.seat c.in-Ended.ensures.event.0 c.self.invariant.4,
+)
 
 pub returns-in-Still-clause-grows : goal.returns-in-Still-clause-grows
 returns-in-Still-clause-grows g c h p =
-    subst (λ (s : SystemState). IsPrefix s.book_is.history h) c.self.view_is (tries_grow c.self.inside.book c.resume.new.book c.args.seat (tried.Still c.in-Still.seat) c.in-Still.ensures.event h (c.wait_on.ensures.grows h p))
+    subst (λ (s : SystemState). IsPrefix s.book_is.history h) c.self.view_is (tries_grow c.self.inside.book c.resume.new.book c.args.seat
+    (tried.Still c.in-Still.seat) c.in-Still.ensures.event h (c.wait_on.ensures.grows h p))
 
 pub returns-in-Ended-clause-grows : goal.returns-in-Ended-clause-grows
 returns-in-Ended-clause-grows g c =
-    subst (λ (s : SystemState). Grows s.book_is.history c.resume.new.book.history) c.self.view_is (tries_grow c.self.inside.book c.resume.new.book c.args.seat (tried.Ended c.in-Ended.ended) c.in-Ended.ensures.event)
+    subst (λ (s : SystemState). Grows s.book_is.history c.resume.new.book.history) c.self.view_is (tries_grow c.self.inside.book c.resume.new.book c.args.seat
+    (tried.Ended c.in-Ended.ended) c.in-Ended.ensures.event)

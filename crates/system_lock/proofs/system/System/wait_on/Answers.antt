@@ -11,7 +11,8 @@ returns-clause-asleep g c =
     let b = c.self.inside.book in
     let p = c.args.seat.pid in
     let now = c.fall_asleep.new.self.sleepers.asleep.items in
-    let those = ◌∙◌ {A = List ℕ} c.fall_asleep.ensures.asleep (ap (with_one c.self.inside.watch.sleepers.asleep.items) c.pid-process.ensures ∙ ap (λ (x : SystemState). with_one x.asleep_are p) c.self.view_is) in
+    let those = ◌∙◌ {A = List ℕ} c.fall_asleep.ensures.asleep (ap (with_one c.self.inside.watch.sleepers.asleep.items) c.pid-process.ensures ∙
+    ap (λ (x : SystemState). with_one x.asleep_are p) c.self.view_is) in
     ◌∙◌ {A = List ℕ} (laws.all_sleep_on b c.fall_asleep.new.self c.fall_asleep.ensures.sound) (ap (still_asleep b) those)
 
 pub returns-clause-lost : goal.returns-clause-lost

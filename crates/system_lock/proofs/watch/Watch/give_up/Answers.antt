@@ -20,4 +20,5 @@ returns-clause-sound g c =
     let was = c.args.self.now in
     let there : is_live_in b c.args.process ≡ true = sym c.is_live.ensures ∙ c.if-not-is_live.false in
     let none : is_among was.lost.processes.items c.args.process ≡ false = sym c.has.ensures ∙ c.if-has.false in
-    laws.one_lost b was (record { sleepers = c.take_out.new.self; lost = c.mark.new.self }) c.args.process c.requires there none c.mark.ensures c.take_out.ensures.asleep (c.take_out.ensures.pipes (pipe_in b))
+    laws.one_lost b was (record { sleepers = c.take_out.new.self; lost = c.mark.new.self }) c.args.process c.requires there none c.mark.ensures
+    c.take_out.ensures.asleep (c.take_out.ensures.pipes (pipe_in b))

@@ -5,7 +5,13 @@ use Rattle.trace_writer.proofs.migration.Migration.take_body.Goals as goal
 
 pub overflow_add-self-2 : goal.overflow_add-self-2
 overflow_add-self-2 c =
-    let old : MigrationState = record { met = c.self.inside.met; decoder = c.self.inside.decoder; records = c.self.inside.records; passed = c.self.inside.passed } in
+    let old : MigrationState = record {
+      met = c.self.inside.met;
+      decoder = c.self.inside.decoder;
+      records = c.self.inside.records;
+      passed =
+          c.self.inside.passed;
+    } in
     let held : length c.held.result.now ≡ length old.decoder.held = ap length c.held.ensures in
     let long : c.len.result - c.len-start.result ≡ length old.decoder.held + length c.args.piece.now =
     omega (arith, held, c.len.ensures, c.len-start.ensures, c.in_ok-extend_from_slice.ensures.len, c.in_ok-extend_from_slice-2.ensures.len) in
@@ -21,7 +27,13 @@ overflow_add-self-2 c =
 
 pub returns-clause-passes : goal.returns-clause-passes
 returns-clause-passes c =
-    let old : MigrationState = record { met = c.self.inside.met; decoder = c.self.inside.decoder; records = c.self.inside.records; passed = c.self.inside.passed } in
+    let old : MigrationState = record {
+      met = c.self.inside.met;
+      decoder = c.self.inside.decoder;
+      records = c.self.inside.records;
+      passed =
+          c.self.inside.passed;
+    } in
     let held : length c.held.result.now ≡ length old.decoder.held = ap length c.held.ensures in
     let long : c.len.result - c.len-start.result ≡ length old.decoder.held + length c.args.piece.now =
     omega (arith, held, c.len.ensures, c.len-start.ensures, c.in_ok-extend_from_slice.ensures.len, c.in_ok-extend_from_slice-2.ensures.len) in
@@ -33,7 +45,9 @@ returns-clause-passes c =
     } in
     let values : c.len-2.result ≡ length c.in_ok-fed.fed.values.items = search rules in
     let start : c.len-start.result ≡ length c.args.out.now.items = search rules in
-    let out = cut_so c.args.out.now.items old.decoder.held c.args.piece.now c.held.result.now _ _ c.truncate.new.self.items c.len-start.result c.frames_length-count.result start c.held.ensures
+    let out = cut_so c.args.out.now.items old.decoder.held c.args.piece.now c.held.result.now _ _ c.truncate.new.self.items c.len-start.result
+    c.frames_length-count.result start c.held.ensures
     c.in_ok-extend_from_slice.ensures.items c.in_ok-extend_from_slice-2.ensures.items c.truncate.ensures.items in
-    rw (← c.self.view_is) (passes_on c.args.piece.now c.args.out.now.items c.truncate.new.self.items old _ c.in_ok-fed.fed.values.items c.in_ok-fed.fed.progress c.frames_length-count.result c.fault_at.result p
+    rw (← c.self.view_is) (passes_on c.args.piece.now c.args.out.now.items c.truncate.new.self.items old _ c.in_ok-fed.fed.values.items c.in_ok-fed.fed.progress
+    c.frames_length-count.result c.fault_at.result p
     out (ap (λ (n : ℕ). c.self.inside.records + n) values) refl c.fault_at.ensures)
