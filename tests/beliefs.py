@@ -60,10 +60,6 @@ system_lock SystemLock.says: said_under L.limits
 system_lock Unlimited.book: L.book
 system_lock Unlimited.limits: None
 system_lock Unlimited.names: L.names
-trace_writer FileSink.contents: λ s. s.file.contents
-trace_writer FileSink.failures: λ s. s.failures
-trace_writer FileSink.is_sound: λ s. true
-trace_writer FileSink.is_synced: λ s. s.is_synced
 trace_writer MemorySink.contents: λ s. Some s.bytes
 trace_writer MemorySink.failures: λ s. s.failures
 trace_writer MemorySink.is_sound: λ s. true

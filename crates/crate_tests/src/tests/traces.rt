@@ -10,13 +10,11 @@ use call_types::call::Call;
 use call_types::limits::Limits;
 use call_types::outcome::{Outcome, Reply};
 use std::alloc::Global;
-use std::fs::OpenOptions;
 use std::process::Abort;
 use std::sync::{Arc, Wait};
 use std::test::Fail;
 use std::time::Clock;
 use trace_ring::trace_ring::{TraceEnd, TraceRing};
-use trace_writer::file::FileSink;
 use trace_writer::memory::{Manner, MemorySink};
 use trace_writer::sink::Sink;
 use trace_writer::traced::{TraceFault, Traced};
@@ -255,32 +253,4 @@ fn sink_fails_to_sync(rt: HostRuntime) -> Result<(), Fail> {
         3,
         Some(TraceFault::Sync),
     )
-}
-
-/// Whether so many whole records and bytes, with this fault, are told of a trace.
-fn tells(
-    rt: &impl Abort,
-    traced: &Traced,
-    whole: u64,
-    bytes: u64,
-    fault: Option<TraceFault>,
-) -> Result<(), Fail> {
-    assert_eq!(rt; traced.whole, whole);
-    assert_eq!(rt; traced.bytes, bytes);
-    assert_eq!(rt; traced.fault, fault);
-    Ok(())
-}
-
-#[test]
-fn full_device_takes_no_byte(rt: HostRuntime) -> Result<(), Fail> {
-    let file = OpenOptions::new().write(true).open(&rt, "/dev/full")?;
-    let traced = traced_in(&rt, rt.alloc(), FileSink::new(file))?;
-    tells(&rt, &traced, 0, 0, Some(TraceFault::Write))
-}
-
-#[test]
-fn null_device_takes_all_and_is_not_synced(rt: HostRuntime) -> Result<(), Fail> {
-    let file = OpenOptions::new().write(true).open(&rt, "/dev/null")?;
-    let traced = traced_in(&rt, rt.alloc(), FileSink::new(file))?;
-    tells(&rt, &traced, 3, 70, Some(TraceFault::Sync))
 }
