@@ -348,10 +348,11 @@ fn replay_command<'a>(alloc: Global) -> Result<Command<'a>, AllocError>
 fn serve_args<'a>(alloc: Global) -> Result<Vec<Arg<'a>>, AllocError>
     ensures { IfOk result (λ args. HaveRules args.items serve_app.top.rules) }
 {
-    let socket = "Where the Unix socket is made; nothing may be there";
+    let socket = "Where the Unix socket is made: at most 107 bytes; nothing may be there";
     let sessions = "Connections that are accepted, 1 to 64; each is one process";
     let records = "Records that the run may have, 1 to 1000000";
-    let trace = "The file for the trace, of this server alone; emptied also by a start that fails";
+    let trace =
+        "The file for the trace; emptied, also by a start that fails, unless another server writes it";
     let args = [
         required_arg(alloc, "socket", "PATH", socket),
         required_arg(alloc, "sessions", "N", sessions),
