@@ -76,13 +76,13 @@ pub(crate) struct Serving<R: Read, W: Write, G: Gate, T: Starter> {
 
 /// A session that is over, what it knows of the run's history, and the starter of its thread.
 #[derive(Drop)]
-pub(crate) struct Over<R: Read, W: Write, L: Run, T: Starter> {
+pub(crate) struct ServedSession<R: Read, W: Write, L: Run, T: Starter> {
     served: Served<R, W, L>,
     known: Front<L>,
     starter: T,
 }
 
-impl<R: Read, W: Write + Connection, G: Gate, L: Run, T: Starter> Promise<Over<R, W, L, T>>
+impl<R: Read, W: Write + Connection, G: Gate, L: Run, T: Starter> Promise<ServedSession<R, W, L, T>>
     for Serving<R, W, G, T> {
     ghost use Rattle.std.specs.Prelude.{◌≡◌};
     ghost use Rattle.session_core.specs.Served.{failures_after};
@@ -110,7 +110,7 @@ impl<R: Read, W: Write, G: Gate, T: Starter> Serving<R, W, G, T> {
 }
 
 /// A session that goes on in its thread.
-type Running<R, W, G, L, T> = PromisedHandle<Over<R, W, L, T>, Serving<R, W, G, T>>;
+type Running<R, W, G, L, T> = PromisedHandle<ServedSession<R, W, L, T>, Serving<R, W, G, T>>;
 
 /// Learns what the seat of a session knows of the run's history, if it has one.
 fn learn_from<R: Read, W: Write, L: Run>(known: &mut Front<L>, served: &Served<R, W, L>)
@@ -138,7 +138,7 @@ fn serve_connection<
     reader: S::Reader,
     writer: S::Writer,
     session: u64,
-) -> Over<S::Reader, S::Writer, L, T>
+) -> ServedSession<S::Reader, S::Writer, L, T>
     ensures serves { ServesSince L.limits result.known G.is_open (S.Reader.Read.remaining reader) (S.Writer.Write.contents writer) result.served }
     ensures starts { T.failures result.starter ≡ failures_after result.served.end_is (T.failures starter) }
     ensures shut { S.Writer.Connection.was_shut result.served.writer.contents }
@@ -159,7 +159,7 @@ fn serve_connection<
         gate,
     );
     learn_from(&mut known, &served);
-    Over {
+    ServedSession {
         served,
         known,
         starter,
@@ -202,7 +202,7 @@ enum Shortage {
     /// The source gave no connection.
     NoConnection,
     /// It gave one, for which memory or a thread was wanting.
-    Lost(Want),
+    Unserved(Want),
 }
 
 /// What was wanting for a session.
@@ -250,7 +250,7 @@ fn next_session<
     ensures no_connection { IfErr result (λ why. why ≡ shortage.NoConnection → (S.failures source.new ≡ S.failures source.old + 1) × (S.accepted source.new ≡ S.accepted source.old) × (S.coming source.new ≡ S.coming source.old)) }
     ensures started { OnOk result (T.failures starter.new ≡ T.failures starter.old) }
     ensures unstarted { IfErr result (λ why. T.failures starter.new ≡ failures_at why (T.failures starter.old)) }
-    ensures lost { IfErr result (λ why. (want : Want) → why ≡ shortage.Lost want → S.failures source.new ≡ S.failures source.old) }
+    ensures unserved { IfErr result (λ why. (want : Want) → why ≡ shortage.Unserved want → S.failures source.new ≡ S.failures source.old) }
 {
     let (reader, writer) = match source.accept() {
         Ok(connection) => connection,
@@ -262,10 +262,10 @@ fn next_session<
                 rt, alloc, starter, shared, reader, writer, session,
             ) {
                 Ok(running) => Ok(running),
-                Err(_) => Err(Shortage::Lost(Want::Thread)),
+                Err(_) => Err(Shortage::Unserved(Want::Thread)),
             }
         }
-        Err(_) => Err(Shortage::Lost(Want::Memory)),
+        Err(_) => Err(Shortage::Unserved(Want::Memory)),
     }
 }
 
@@ -299,7 +299,7 @@ fn start_all<
     ensures few { vec_len result.running ≤ sessions }
     ensures failures { result.want ≡ None → FailsIfFewer (vec_len result.running) sessions (S.failures source.old) (S.failures source.new) }
     ensures accepted { result.want ≡ None → S.accepted source.new ≡ S.accepted source.old + vec_len result.running }
-    ensures lost { (want : Want) → result.want ≡ Some want → S.failures source.new ≡ S.failures source.old }
+    ensures unserved { (want : Want) → result.want ≡ Some want → S.failures source.new ≡ S.failures source.old }
     ensures starts { T.failures starter.new ≡ failures_for result.want (T.failures starter.old) }
     ensures gives { result.want ≡ None → GivesConnections (S.coming source.old) (S.coming source.new) (map (λ thread. streams (S.Reader.Read.remaining thread.promise.reader.value) (S.Writer.Write.contents thread.promise.writer.value)) result.running.items) }
 {
@@ -313,7 +313,7 @@ fn start_all<
                     want: None,
                 };
             }
-            Err(Shortage::Lost(want)) => {
+            Err(Shortage::Unserved(want)) => {
                 return Started {
                     running,
                     want: Some(want),
@@ -400,7 +400,7 @@ fn join_all<
         mut shares,
     } = room;
     for thread in running {
-        let Over {
+        let ServedSession {
             served,
             known,
             starter: own,
@@ -499,7 +499,7 @@ fn serve_all<
     ensures few { vec_len result.parted.sessions ≤ sessions }
     ensures ended { HasEnded G.is_open L.limits result.want (S.coming source.old) (S.coming source.new) result.closed.book result.closed.house result.parted.sessions.items result.parted.shares.items }
     ensures starts { T.failures starter.new ≡ failures_with result.parted.sessions.items (failures_for result.want (T.failures starter.old)) }
-    ensures lost { (want : Want) → result.want ≡ Some want → S.failures source.new ≡ S.failures source.old }
+    ensures unserved { (want : Want) → result.want ≡ Some want → S.failures source.new ≡ S.failures source.old }
     ensures shut { AreShut S.Writer.Connection.was_shut result.parted.sessions.items }
 {
     let Rooms { running, ends } = rooms;
@@ -620,7 +620,7 @@ fn serve_traced<
     ensures unbegun { IfErr result (λ u. u.left ≡ None → S.accepted source.new ≡ S.accepted source.old) }
     ensures started { IfOk result (λ report. T.failures starter.new ≡ failures_with report.ends.items (T.failures starter.old)) }
     ensures unstarted { IfErr result (λ u. T.failures starter.new ≡ failures_with (left_sessions (option_map (λ left. left.ends.items) u.left)) (failures_by u.fault (T.failures starter.old))) }
-    ensures lost { IfErr result (λ u. u.fault ≡ run_fault.NoThread → S.failures source.new ≡ S.failures source.old) }
+    ensures unserved { IfErr result (λ u. u.fault ≡ run_fault.NoThread → S.failures source.new ≡ S.failures source.old) }
     ensures shut { IfOk result (λ report. AreShut S.Writer.Connection.was_shut report.ends.items) }
     ensures left_shut { IfErr result (λ u. AreShut S.Writer.Connection.was_shut (left_sessions (option_map (λ left. left.ends.items) u.left))) }
     ensures spelled { IfOk result (λ report. report.traced.fault ≡ Some trace_fault.Unspellable → ⊥) }
@@ -673,7 +673,7 @@ pub fn run_sessions<
     ensures unbegun { IfErr result (λ u. u.left ≡ None → S.accepted source.new ≡ S.accepted source.old) }
     ensures started { IfOk result (λ report. T.failures starter.new ≡ failures_with report.ends.items (T.failures starter.old)) }
     ensures unstarted { IfErr result (λ u. T.failures starter.new ≡ failures_with (left_sessions (option_map (λ left. left.ends.items) u.left)) (failures_by u.fault (T.failures starter.old))) }
-    ensures lost { IfErr result (λ u. u.fault ≡ run_fault.NoThread → S.failures source.new ≡ S.failures source.old) }
+    ensures unserved { IfErr result (λ u. u.fault ≡ run_fault.NoThread → S.failures source.new ≡ S.failures source.old) }
     ensures shut { IfOk result (λ report. AreShut S.Writer.Connection.was_shut report.ends.items) }
     ensures left_shut { IfErr result (λ u. AreShut S.Writer.Connection.was_shut (left_sessions (option_map (λ left. left.ends.items) u.left))) }
     ensures spelled { IfOk result (λ report. report.traced.fault ≡ Some trace_fault.Unspellable → ⊥) }

@@ -15,4 +15,4 @@ failures_for (Some want.Thread) failures = one_more failures
 -- so many, where no session was started for this
 abbrev pub failures_at : Shortage → ℕ → ℕ
 failures_at shortage.NoConnection failures = failures
-failures_at (shortage.Lost lacked) failures = failures_for (Some lacked) failures
+failures_at (shortage.Unserved lacked) failures = failures_for (Some lacked) failures

@@ -92,10 +92,10 @@ returns-in_err-report-clause-unreported g c =
     rw (p.1, p.2, c.in_err-report.ensures.left) (left_is told fault g.L.Ledgers.limits ended.want ended.parted.shares.items c.requires.limits
     c.serve_all-ended.ensures.ended (rw c.requires.traced at c.join-done.ensures) c.in_err-report.ensures.want reason)
 
-pub returns-in_err-report-clause-lost : goal.returns-in_err-report-clause-lost
-returns-in_err-report-clause-lost g c =
+pub returns-in_err-report-clause-unserved : goal.returns-in_err-report-clause-unserved
+returns-in_err-report-clause-unserved g c =
     let p = err_from_is_err_and c.from_residual.result c.from_residual.ensures.1 in
-    rw (p.1, p.2) (λ is. c.serve_all-ended.ensures.lost want.Thread (c.in_err-report.ensures.no_thread is))
+    rw (p.1, p.2) (λ is. c.serve_all-ended.ensures.unserved want.Thread (c.in_err-report.ensures.no_thread is))
 
 pub returns-clause-started : goal.returns-clause-started
 returns-clause-started g c =
