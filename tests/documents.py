@@ -39,7 +39,7 @@ PATH = re.compile(r"(?:crates|tests|tools|clients|bench|docs|examples|\.ci)/[\w.
 # Where limits are told: the file, how a line of it begins, and whose numbers of `call_types` stand there.
 LIMITS = TOP / "crates/call_types/src/limits.rt"
 LIBRARY = "clients/preload/"
-PROFILE, HELP, MANUAL = "docs/PROFILE.md", "crates/job_core/src/job.rt", "docs/fdref.1"
+PROFILE, HELP, MANUAL = "docs/PROFILE.md", "crates/command_line/src/job.rt", "docs/fdref.1"
 TOLD = (
     (PROFILE, "| Descriptors of a process", "OPEN_MAX"),
     (PROFILE, "| Live open file descriptions", "DESCRIPTIONS_MAX"),

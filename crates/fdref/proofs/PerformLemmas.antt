@@ -6,10 +6,10 @@ use Rattle.job_core.specs.Audit.{AuditEnds, IsFoundOn, WritesVerdict}
 use Rattle.fdref.specs.Perform.{Has}
 use Rattle.job_core.specs.Migrate.{BreaksOff, MigrateEnds, Outputs}
 use Rattle.job_core.specs.Show.{OfAll, OfFront, ShowEnds}
-use Rattle.job_core.specs.declared.demand.Demand.{Demand}
+use Rattle.command_line.specs.declared.demand.Demand.{Demand}
 use Rattle.job_core.specs.declared.job_end.JobEnd.{JobEnd}
 use Rattle.job_core.specs.declared.job_end.JobEnd.TheVariants as ended
-use Rattle.job_core.specs.declared.shown.Form.{Form}
+use Rattle.command_line.specs.declared.form.Form.{Form}
 
 -- ---- an audit
 

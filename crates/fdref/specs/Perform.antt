@@ -10,8 +10,8 @@ use Rattle.call_types.specs.declared.limits.Limits.{Limits}
 use Rattle.run_core.specs.Run.{IsBlank, Streams}
 use Rattle.fdref.specs.Serve.{Reports, RunAsked, SinkState}
 use Rattle.job_core.specs.Show.{ShowEnds}
-use Rattle.job_core.specs.declared.job.Job.{Job}
-use Rattle.job_core.specs.declared.job.Job.TheVariants as job
+use Rattle.command_line.specs.declared.job.Job.{Job}
+use Rattle.command_line.specs.declared.job.Job.TheVariants as job
 use Rattle.job_core.specs.declared.job_end.JobEnd.{JobEnd}
 use Rattle.job_core.specs.declared.job_end.JobEnd.TheVariants as ended
 

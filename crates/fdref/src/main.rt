@@ -10,12 +10,12 @@ mod trace_file;
 
 ghost use Rattle.std.specs.Prelude.{◌≡◌};
 ghost use Rattle.std.specs.Process.{exit_status};
-ghost use Rattle.job_core.specs.CommandLine.{status_of};
+ghost use Rattle.command_line.specs.CommandLine.{status_of};
 ghost use Rattle.job_core.specs.JobEnds.{ended_status};
 
 use causes::Causes;
+use command_line::job::{Job, JobFault, job_of, not_text};
 use files::SystemFiles;
-use job_core::job::{Job, JobFault, job_of, not_text};
 use job_core::job_end::JobEnd;
 use listener::Sockets;
 use logged_streams::writer::LoggedWriter;

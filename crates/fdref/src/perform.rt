@@ -8,15 +8,15 @@ ghost use Rattle.job_core.specs.Show.{ShowEnds};
 
 use crate::serve::{Served, serve_on};
 use call_types::limits::Limits;
+use command_line::demand::Demand;
+use command_line::form::Form;
+use command_line::job::Job;
 use job_core::audit_file::audit_file;
-use job_core::demand::Demand;
-use job_core::job::Job;
 use job_core::job_end::JobEnd;
 use job_core::migrate_file::migrate_file;
 use job_core::outcomes::outcomes;
 use job_core::replay::replay;
 use job_core::show::show;
-use job_core::shown::Form;
 use logged_streams::reader::LoggedReader;
 use logged_streams::writer::LoggedWriter;
 use run_core::source::Source;

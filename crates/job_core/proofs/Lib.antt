@@ -1,5 +1,3 @@
-pub mod Parses
-pub mod RequiredOptions
 pub mod OutputLemmas
 pub mod ReadsLemmas
 pub mod ReplayLemmas

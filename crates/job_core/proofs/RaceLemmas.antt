@@ -32,7 +32,7 @@ use Rattle.race_outcomes.specs.declared.tellings.Told.{Told}
 use Rattle.job_core.specs.Output.{AppendsFront}
 use Rattle.job_core.specs.Shown.{shown_lines}
 use Rattle.job_core.specs.declared.outcomes.Search.{Search}
-use Rattle.job_core.specs.declared.shown.Form.{Form}
+use Rattle.command_line.specs.declared.form.Form.{Form}
 use Rattle.job_core.specs.Replay.{OfInput, ends_in_return}
 use Rattle.job_core.specs.Outcomes.{IsReady, HasOutcomes, Tells, LacksOutcome, IsNoRace, IsBadLine, IsBadReturn, IsUnfit, IsTooLarge, IsWitness, AreWitnessLines, OutcomesEnd, WritesTold, WritesToldFront}
 use Rattle.job_core.specs.Proved.Reading.{FailsToRead}
@@ -41,8 +41,8 @@ use Rattle.job_core.specs.declared.job_end.JobEnd.{JobEnd}
 use Rattle.job_core.specs.declared.job_end.JobEnd.TheVariants as ended
 use Rattle.job_core.specs.declared.job_end.Unfit.{Unfit}
 use Rattle.job_core.specs.declared.job_end.Unfit.TheVariants as unfit
-use Rattle.job_core.specs.declared.telling.Telling.{Telling}
-use Rattle.job_core.specs.declared.telling.Telling.TheVariants as telling
+use Rattle.command_line.specs.declared.telling.Telling.{Telling}
+use Rattle.command_line.specs.declared.telling.Telling.TheVariants as telling
 
 -- ---- the text that was read is the input, or both are too long
 

@@ -9,8 +9,8 @@ use Rattle.call_types.specs.declared.limits.Limits.{Limits}
 use Rattle.logged_streams.specs.Streams.{LogState, LoggedWriterState}
 use Rattle.job_core.specs.Reads.{ReadsFew}
 use Rattle.job_core.specs.Replay.{OfInput, ReplayEnds, read_in}
-use Rattle.job_core.specs.declared.spelling.Spelling.{Spelling}
-use Rattle.job_core.specs.declared.spelling.Spelling.TheVariants as spelling
+use Rattle.command_line.specs.declared.spelling.Spelling.{Spelling}
+use Rattle.command_line.specs.declared.spelling.Spelling.TheVariants as spelling
 use Rattle.job_core.specs.Proved.Reading.{FailsToRead}
 use Rattle.job_core.specs.declared.job_end.JobEnd.{JobEnd}
 use Rattle.job_core.specs.declared.job_end.JobEnd.TheVariants as ended

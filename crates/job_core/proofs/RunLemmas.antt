@@ -30,8 +30,8 @@ use Rattle.logged_streams.specs.Streams.{LoggedWriterState, Writes}
 use Rattle.job_core.specs.Output.{AppendsFront, last_line, told_line, told_lines}
 use Rattle.job_core.specs.Replay.{Refuses, ReplayEnds, Spells, WritesReplay, WritesReplayFront, byte_at, column_in, end_at, end_in, end_in_line, ends_in_return, opens_string, read_in}
 use Rattle.job_core.specs.Proved.Running.{IsToldAsRead, RunsNext, RunsOn, Gathers, RunsScript, RunsText, FailsTold}
-use Rattle.job_core.specs.declared.spelling.Spelling.{Spelling}
-use Rattle.job_core.specs.declared.spelling.Spelling.TheVariants as spelling
+use Rattle.command_line.specs.declared.spelling.Spelling.{Spelling}
+use Rattle.command_line.specs.declared.spelling.Spelling.TheVariants as spelling
 use Rattle.job_core.proofs.ReplayLemmas.{of_input}
 use Rattle.job_core.specs.declared.job_end.JobEnd.{JobEnd}
 use Rattle.job_core.specs.declared.job_end.JobEnd.TheVariants as ended

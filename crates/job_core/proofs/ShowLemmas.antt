@@ -31,7 +31,7 @@ use Rattle.job_core.specs.Proved.Showing.{BodyGives, IsFound, ShowsPiece, TakesB
 use Rattle.job_core.specs.Shown.{LinesState, line_from, lines_from, next_lines, shown_lines}
 use Rattle.job_core.specs.declared.job_end.JobEnd.{JobEnd}
 use Rattle.job_core.specs.declared.job_end.JobEnd.TheVariants as ended
-use Rattle.job_core.specs.declared.shown.Form.{Form}
+use Rattle.command_line.specs.declared.form.Form.{Form}
 
 -- ---- lines
 

@@ -10,8 +10,8 @@ use Rattle.audit_core.specs.declared.verdict.Finding.{Finding}
 use Rattle.audit_core.specs.declared.verdict.Verdict.{Verdict}
 use Rattle.audit_core.specs.declared.verdict.Verdict.TheVariants.{Legal, Illegal, Malformed}
 use Rattle.job_core.specs.Output.{AppendsFront}
-use Rattle.job_core.specs.declared.demand.Demand.{Demand}
-use Rattle.job_core.specs.declared.demand.Demand.TheVariants as demand
+use Rattle.command_line.specs.declared.demand.Demand.{Demand}
+use Rattle.command_line.specs.declared.demand.Demand.TheVariants as demand
 use Rattle.job_core.specs.declared.job_end.JobEnd.{JobEnd}
 use Rattle.job_core.specs.declared.job_end.JobEnd.TheVariants as ended
 

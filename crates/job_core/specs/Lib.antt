@@ -1,4 +1,3 @@
-pub mod CommandLine
 pub mod JobEnds
 pub mod Output
 pub mod Reads

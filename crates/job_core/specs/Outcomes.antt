@@ -30,9 +30,9 @@ use Rattle.job_core.specs.declared.job_end.JobEnd.{JobEnd}
 use Rattle.job_core.specs.declared.job_end.JobEnd.TheVariants as ended
 use Rattle.job_core.specs.declared.job_end.Unfit.{Unfit}
 use Rattle.job_core.specs.declared.job_end.Unfit.TheVariants as unfit
-use Rattle.job_core.specs.declared.shown.Form.{Form}
-use Rattle.job_core.specs.declared.telling.Telling.{Telling}
-use Rattle.job_core.specs.declared.telling.Telling.TheVariants as telling
+use Rattle.command_line.specs.declared.form.Form.{Form}
+use Rattle.command_line.specs.declared.telling.Telling.{Telling}
+use Rattle.command_line.specs.declared.telling.Telling.TheVariants as telling
 
 -- ---- what a race is
 

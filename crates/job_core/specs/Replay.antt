@@ -19,8 +19,8 @@ use Rattle.script_run.specs.declared.told.ScriptAnswer.{ScriptAnswer}
 use Rattle.job_core.specs.Output.{AppendsFront, last_line, told_lines}
 use Rattle.job_core.specs.declared.job_end.JobEnd.{JobEnd}
 use Rattle.job_core.specs.declared.job_end.JobEnd.TheVariants as ended
-use Rattle.job_core.specs.declared.spelling.Spelling.{Spelling}
-use Rattle.job_core.specs.declared.spelling.Spelling.TheVariants as spelling
+use Rattle.command_line.specs.declared.spelling.Spelling.{Spelling}
+use Rattle.command_line.specs.declared.spelling.Spelling.TheVariants as spelling
 
 -- ---- how a script and its lines are spelled
 

@@ -14,7 +14,7 @@ use Rattle.job_core.specs.Output.{AppendsFront}
 use Rattle.job_core.specs.Shown.{shown_lines}
 use Rattle.job_core.specs.declared.job_end.JobEnd.{JobEnd}
 use Rattle.job_core.specs.declared.job_end.JobEnd.TheVariants as ended
-use Rattle.job_core.specs.declared.shown.Form.{Form}
+use Rattle.command_line.specs.declared.form.Form.{Form}
 
 -- ---- what a trace's bytes have
 

@@ -14,8 +14,8 @@ use Rattle.script_text.specs.Lines.{act_line, record_line}
 use Rattle.text_forms.specs.Json.{json_line}
 use Rattle.text_forms.specs.Scripts.{strung}
 use Rattle.text_forms.specs.declared.scripts.Lines.TheVariants as lines
-use Rattle.job_core.specs.declared.shown.Form.{Form}
-use Rattle.job_core.specs.declared.shown.Form.TheVariants as forms
+use Rattle.command_line.specs.declared.form.Form.{Form}
+use Rattle.command_line.specs.declared.form.Form.TheVariants as forms
 
 -- the form of the lines, how many records were before, and which processes were made by a fork and are not attached
 pub record LinesState : Type 0 where

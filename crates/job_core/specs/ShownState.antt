@@ -12,7 +12,7 @@ use Rattle.logged_streams.specs.Streams.{LoggedWriterState, Writes}
 use Rattle.job_core.specs.Shown.{LinesState, first_lines, lines_from, next_lines}
 use Rattle.job_core.specs.declared.job_end.JobEnd.{JobEnd}
 use Rattle.job_core.specs.declared.job_end.JobEnd.TheVariants as ended
-use Rattle.job_core.specs.declared.shown.Form.{Form}
+use Rattle.command_line.specs.declared.form.Form.{Form}
 use Rattle.job_core.specs.Show.{BeginsWith, BreaksAt, WritesAll, WritesSome}
 
 -- the bytes of the header so far, while it is not whole; then how long it is, and what is held of the bytes after it; and how the lines

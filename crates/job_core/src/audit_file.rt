@@ -4,13 +4,13 @@ ghost use Rattle.std.specs.Prelude.{◌≡◌, ◌++◌, IfOk, OnOk};
 ghost use Rattle.job_core.specs.Audit.{AuditEnds, expected_word, legal_end, verdict_end, verdict_line};
 ghost use Rattle.job_core.specs.Reads.{ReadsFew};
 
-use crate::demand::Demand;
 use crate::job_end::JobEnd;
 use crate::output::write_lines;
 use audit_core::audit::{AuditFault, READS_MAX, audit};
 use audit_core::laws::faults_stay;
 use audit_core::verdict::{Ending, Verdict};
 use call_types::outcome::Outcome;
+use command_line::demand::Demand;
 use logged_streams::reader::LoggedReader;
 use logged_streams::writer::LoggedWriter;
 use script_text::lines::write_outcome;

@@ -1,10 +1,8 @@
-//! What the words of a command line ask for, how a job ends, and the jobs of one thread: a replay, the outcomes of a
+//! How a job ends, and the jobs of one thread: a replay, the outcomes of a
 //! race, an audit, a trace that is shown, and one that is written anew.
 #![tactic(auto)]
 
 pub mod audit_file;
-pub mod demand;
-pub mod job;
 pub mod job_end;
 pub mod migrate_file;
 pub mod outcomes;
@@ -12,5 +10,3 @@ pub mod output;
 pub mod replay;
 pub mod show;
 pub mod shown;
-pub mod spelling;
-pub mod telling;

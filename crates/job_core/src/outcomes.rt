@@ -13,10 +13,11 @@ ghost use Rattle.job_core.specs.Proved.Racing.{end_of_fault, end_of_line, end_of
 use crate::job_end::{JobEnd, Unfit};
 use crate::output::write_lines;
 use crate::replay::{READS_MAX, ends_in_return, read_text};
-use crate::shown::{Form, Lines};
-use crate::telling::Telling;
+use crate::shown::Lines;
 use call_types::act::{Act, Record};
 use call_types::limits::Limits;
+use command_line::form::Form;
+use command_line::telling::Telling;
 use logged_streams::reader::LoggedReader;
 use logged_streams::writer::LoggedWriter;
 use posix_model::world::World;

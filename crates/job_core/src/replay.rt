@@ -8,15 +8,15 @@ ghost use Rattle.job_core.specs.Reads.{ReadsFew};
 ghost use Rattle.job_core.specs.Replay.{ReplayEnds, byte_at, column_in, end_at, end_in, end_of_fault, ends_in_return, from_line, is_data, last_of_line, opens_string, read_in};
 ghost use Rattle.job_core.specs.Proved.Reading.{FailsToRead};
 ghost use Rattle.job_core.specs.Proved.Running.{Gathers, RunsNext, RunsOn, RunsScript, RunsText, FailsAs, FailsReading, FailsTold};
-ghost use Rattle.job_core.specs.declared.spelling.Spelling.{Spelling};
-ghost use Rattle.job_core.specs.declared.spelling.Spelling.TheVariants as spelling;
+ghost use Rattle.command_line.specs.declared.spelling.Spelling.{Spelling};
+ghost use Rattle.command_line.specs.declared.spelling.Spelling.TheVariants as spelling;
 ghost use Rattle.script_text.specs.declared.fault.ScriptFault.{ScriptFault};
 
 use crate::job_end::JobEnd;
 use crate::output::{put_line, write_lines};
-use crate::spelling::Spelling;
 use call_types::act::ScriptAct;
 use call_types::limits::Limits;
+use command_line::spelling::Spelling;
 use logged_streams::reader::LoggedReader;
 use logged_streams::reading::{ReadEnd, Takes, read_all};
 use logged_streams::stream_log::INTERRUPTIONS_MAX;

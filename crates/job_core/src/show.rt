@@ -8,9 +8,10 @@ ghost use Rattle.job_core.specs.Proved.Showing.{ShowsPiece, TakesBody, TakesPiec
 
 use crate::job_end::JobEnd;
 use crate::output::write_lines;
-use crate::shown::{Form, Lines};
+use crate::shown::Lines;
 use audit_core::audit::{READ_LENGTH, READS_MAX};
 use audit_core::laws::broken_stays;
+use command_line::form::Form;
 use frame_codec::decoder::{Decoder, Progress};
 use frame_codec::frame_kind::Records;
 use frame_codec::laws::pieces_go_on;

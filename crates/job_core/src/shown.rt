@@ -11,27 +11,13 @@ use call_types::act::{Act, Record};
 use call_types::call::Call;
 use call_types::limits::PROCESSES_MAX;
 use call_types::outcome::{Outcome, Reply};
+use command_line::form::Form;
 use script_text::lines::{write_act, write_record};
 use std::alloc::{AllocError, Global};
 use std::marker::Model;
 use text_forms::json::write_json;
 use text_forms::scripts;
 use text_forms::scripts::write_strung;
-
-/// In which form the records of a trace are shown.
-#[derive(Clone, Copy, Debug, PartialEq, Eq)]
-pub enum Form {
-    /// A line for each record, with its place and its outcome.
-    Records,
-    /// The lines of a script that asks for the same acts.
-    Acts,
-    /// The lines of `Records`, with data of printable bytes as strings.
-    RecordsInText,
-    /// The lines of `Acts`, with data of printable bytes as strings.
-    ActsInText,
-    /// A JSON object for each record.
-    Objects,
-}
 
 /// The number that a reply tells.
 fn number_of(outcome: &Outcome) -> Option<u64>

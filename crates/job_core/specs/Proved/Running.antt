@@ -14,7 +14,7 @@ use Rattle.script_run.specs.declared.told.ScriptAnswer.{ScriptAnswer}
 use Rattle.script_run.specs.declared.told.ScriptAnswer.TheVariants.{Recorded, Closed, Still, Refused}
 use Rattle.job_core.specs.Output.{last_line, told_line, told_lines}
 use Rattle.job_core.specs.declared.job_end.JobEnd.{JobEnd}
-use Rattle.job_core.specs.declared.spelling.Spelling.{Spelling}
+use Rattle.command_line.specs.declared.spelling.Spelling.{Spelling}
 use Rattle.job_core.specs.Replay.{IsOutput, end_in, end_of_fault, lines_in, read_in}
 
 -- a record that is told was read from a line as its act

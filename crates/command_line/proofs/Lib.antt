@@ -1,0 +1,2 @@
+pub mod Parses
+pub mod RequiredOptions
