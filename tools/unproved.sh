@@ -18,5 +18,6 @@ unproved=$prefix/share/fdref/out/unproved
 . "$unproved/telling.sh"
 tell "this answer is not proved"
 tell_fifos "$@"
-tell_slowness "$@"
+tell_header "$@"
+tell_later unproved "$@"
 exec "$unproved/fdref" "$@"
