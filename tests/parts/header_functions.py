@@ -5,12 +5,13 @@ they name it, or one of its own headers. They are read with _GNU_SOURCE, once al
 one that libc.so.6 exports for programs, of the version that a new program gets. It takes a descriptor or a path if it
 has one of these parameters, by type and name:
 
-  - an int whose name ends in `fd`, `fd2`, `fdin`, `fdout` or `fildes`, or is in DESCRIPTORS; an array of two ints,
+  - an int whose name ends in `fd`, `fd2`, `fdin`, `fdout` or `fildes`, or is in DESCRIPTORS; an mqd_t, which is an int,
+    and an array of two ints,
   - a char * whose name is in PATHS, and a list of these without a name, as of fts_open,
   - a pointer to what holds descriptors: HOLDERS.
 
 So far that is by names, since C has one type for all ints. tests/parts/preload_functions.py has each further name of a
-char *, and fails where a header has one that is in neither.
+char * and of an int, and each further type that is an int, and fails where a header has one that is in neither.
 """
 
 import re
@@ -29,6 +30,7 @@ STARTS = ("stddef.h", "stdint.h", "stdio.h", "sys/types.h", "sys/socket.h")
 IS_DESCRIPTOR = re.compile(r"\w*(?:fd|fd2|fdin|fdout|fildes)")
 # the further ints: of preadv2, of the filters of sources, and of what closes from one on
 DESCRIPTORS = {"__fp", "__s", "__from"}
+QUEUE = "mqd_t"
 HOLDERS = re.compile(r"\bstruct (?:pollfd|aiocb|aiocb64|msghdr|mmsghdr)\b|\bfd_set\b|\bposix_spawn_file_actions_t\b")
 PATHS = set(
     """__command __dir __dirname __file __filename __from __from_pathname __name __new __old __path __pathname __pattern
@@ -92,18 +94,40 @@ def split(text: str) -> list[str]:
 
 NESTED = r"\((?:[^()]|\((?:[^()]|\((?:[^()]|\([^()]*\))*\))*\))*\)"
 NOISE = re.compile(
-    rf"__(?:attribute|asm)__\s*{NESTED}|__asm\s*{NESTED}|__extension__|__restrict\w*|__inline\w*|\bextern\b"
+    rf"__(?:attribute|asm)__\s*{NESTED}|__asm\s*{NESTED}|__extension__|__restrict\w*|__inline\w*|\bextern\b|^#.*$",
+    re.MULTILINE,
 )
+# A name of a type, and what that is.
+NAMED = re.compile(r"typedef (?:const )?([\w ]+?) (\w+)")
+IS_INT = re.compile(r"(?:const )?(?:(?:unsigned|signed) )?int|unsigned|signed")
 DECLARED = re.compile(rf"(?!typedef)[\w\s*]*?[\s*](\w+)\s*({NESTED})")
 
 
 def functions_in(text: str) -> dict[str, Function]:
     """The functions that a preprocessed text declares."""
     found: dict[str, Function] = {}
-    for declared in without_bodies(NOISE.sub(" ", text)).split(";"):
-        match = DECLARED.fullmatch(" ".join(declared.split()))
+    for declared in statements(text):
+        match = DECLARED.fullmatch(declared)
         if match:
             found.setdefault(match[1], Function(match[1], split(match[2][1:-1])))
+    return found
+
+
+def statements(text: str) -> list[str]:
+    """What a preprocessed text declares, each in one line."""
+    return [" ".join(declared.split()) for declared in without_bodies(NOISE.sub(" ", text)).split(";")]
+
+
+def types_in(text: str) -> set[str]:
+    """The names of types that are an int, at last."""
+    named = {match[2]: match[1] for match in map(NAMED.fullmatch, statements(text)) if match}
+    found: set[str] = set()
+    for name in named:
+        kind, seen = name, {name}
+        while kind in named and named[kind] not in seen:
+            kind = named[kind]
+            seen.add(kind)
+        found |= {name} if IS_INT.fullmatch(kind) else set()
     return found
 
 
@@ -148,6 +172,8 @@ def kind_of(parameter: str) -> str:
         return held[0]
     if re.fullmatch(r"(?:unsigned )?int \w+", parameter):
         return "descriptor" if IS_DESCRIPTOR.fullmatch(name) or name in DESCRIPTORS else ""
+    if parameter.startswith(QUEUE):
+        return QUEUE
     if re.fullmatch(r"int \w+\s?\[2\]", parameter):
         return "ends"
     if re.fullmatch(r"char \*\s?const \*", parameter):
@@ -161,9 +187,26 @@ def takes(function: Function) -> bool:
 
 
 @cache
+def texts(compiler: str) -> str:
+    """All headers as the preprocessor gives them, without and with checks of buffers."""
+    source = "".join(f"#include <{header}>\n" for header in headers(compiler))
+    return preprocessed(compiler, source, []) + ";" + preprocessed(compiler, source, ["-D_FORTIFY_SOURCE=2"])
+
+
+@cache
 def declared(compiler: str, program: str) -> dict[str, Function]:
     """All functions that the headers declare and the C library of a program gives."""
-    source = "".join(f"#include <{header}>\n" for header in headers(compiler))
-    text = preprocessed(compiler, source, []) + ";" + preprocessed(compiler, source, ["-D_FORTIFY_SOURCE=2"])
     given = exported(c_library(program))
-    return {name: function for name, function in functions_in(text).items() if name in given}
+    return {name: function for name, function in functions_in(texts(compiler)).items() if name in given}
+
+
+@cache
+def int_types(compiler: str) -> frozenset[str]:
+    """The names that the headers have for types that are an int."""
+    return frozenset(types_in(texts(compiler)))
+
+
+def int_of(parameter: str, types: frozenset[str]) -> tuple[str, str] | None:
+    """The type and the name of a parameter that is an int, which may have none; else nothing."""
+    found = re.fullmatch(r"(?:const )?((?:unsigned )?int|\w+)(?: (\w+))?", parameter)
+    return (found[1], found[2] or "") if found and (IS_INT.fullmatch(found[1]) or found[1] in types) else None

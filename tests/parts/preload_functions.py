@@ -32,6 +32,28 @@ NOT_PATHS = set(
     __s2 __serv __service __shortopts __src __statebuf __str __string __string1 __string2 __tag __text __tocode
     __tty __user __ut_host __ut_line __ut_name __value __version __with __words""".split()
 )
+# Names of an int that is no descriptor, and other names of its type; functions whose int has no name, as that of ctype.h.
+NOT_DESCRIPTORS = set(
+    """___argc ___flags __access_rights __action __advice __advise __af __algorithm __argc __aux __base __bufsize __c
+    __category __category_mask __cflags __cmd __count __datalen __delim __delimiter __denom __descriptors
+    __detachstate __domain __duration __ecode __eflags __ent __err __err_num __errcode __errnum __event_f_flags
+    __exponent __facility __fdtype __flag __flags __how __howto __i __id __ifindex __inc __index __inherit
+    __interrupt __key __kind __len __level __line __lineno __major __mask __maxevents __minor __mode __modes
+    __ms_flags __msg_prio __msgflg __msqid __multx __n __name __nbytes __ndigit __nelem __nent __nfds __nochdir
+    __noclose __nsems __nstype __number __numer __offset __oflag __op __operation __option __optional_actions
+    __options __optname __override __param __pkey __plusy __policy __port __pref __pri __prio __prioceiling
+    __profcnt __proj_id __prot __proto __protocol __pshared __queue_selector __quote __replace __request __res
+    __robustness __rport __savemask __scale __schedpolicy __scope __seconds __seed __segments __semflg __semid
+    __semnum __sep __set __severity __shmflg __shmid __sig __signal __signo __size __spec __state __status
+    __stay_open __stayopen __suffixlen __suser __timeout __turn_on __type __val __value __vlen __w __wd __whence __x
+    __year flags""".split()
+)
+NOT_TYPES = set(
+    """__clockid_t __gid_t __id_t __mode_t __pid_t __re_size_t __socklen_t __uid_t __uint32_t __useconds_t char32_t
+    clockid_t id_t in_addr_t key_t mode_t nl_item pid_t pthread_key_t regoff_t socklen_t speed_t tss_t uint32_t
+    wchar_t wint_t""".split()
+)
+NAMELESS = re.compile(r"_?(?:is|to)\w+|__overflow|_obstack_\w+|fts(?:64)?_\w+")
 
 # These run programs, or make another call: preload_programs.py has them.
 ELSEWHERE = re.compile(r"posix_spawnp?|system|popen|syscall|(?:__)?clone")
@@ -80,6 +102,21 @@ def knows_names(library: Library) -> None:
         if header_functions.is_text(parameter) and parameter.rstrip().endswith(header_functions.name_of(parameter))
     }
     same(set(), {name for name in every if name.startswith("__")} - header_functions.PATHS - NOT_PATHS)
+
+
+def knows_ints(library: Library) -> None:
+    """Of each int in the headers, by its name or that of its type, it is known whether it is a descriptor."""
+    types = header_functions.int_types(library.compiler)
+    require(header_functions.QUEUE in types and "int8_t" not in types, f"other types: {sorted(types)}")
+    unknown = set()
+    for function in of_headers(library).values():
+        for parameter in function.parameters:
+            kind, name = header_functions.int_of(parameter, types) or ("", "")
+            if not kind or kind in NOT_TYPES or kind_of(parameter) or name in NOT_DESCRIPTORS:
+                continue
+            if name or not NAMELESS.fullmatch(function.name):
+                unknown.add(f"{parameter} of {function.name}")
+    same(set(), unknown)
 
 
 def has_all(library: Library) -> None:
@@ -171,6 +208,7 @@ def functions(program: str, library: Library) -> Iterator[Case]:
     """The table, and the calls that are told."""
     yield "verdicts of the table", has_verdicts
     yield f"names of parameters, {library.name}", partial(knows_names, library)
+    yield f"names of ints, {library.name}", partial(knows_ints, library)
     yield f"the table and the headers, {library.name}", partial(has_all, library)
     yield f"the table and the library, {library.name}", partial(has_no_more, library)
     yield f"calls that are told, {library.name}", partial(tell, program, library)
