@@ -286,19 +286,19 @@ def possible(history: Sequence[Noted], limits: Limits, why: Why = reason_of) -> 
 
 
 def excused(
-    history: Sequence[Noted], limits: Limits, states_most: int, seconds: float
+    history: Sequence[Noted], limits: Limits, states_most: int, seconds: float, why: Why = reason_of
 ) -> tuple[list[Noted], list[Apart]]:
     """An order of a history, and the calls in it that the model answers otherwise: each of them has a reason. They are
     none where no such order is found. Where pipes have too little room it is one for larger pipes."""
     ordered = came_back(history)
-    found = list(differences(ordered, limits))
+    found = list(differences(ordered, limits, why))
     if wants_room(found, limits):
-        return excused(history, ROOMY, states_most, seconds)
+        return excused(history, ROOMY, states_most, seconds, why)
     doubted = {it.place for it in found if it.reason}
     if doubted and len(doubted) < len(found):
         result = explain(without_answers(ordered, doubted), states_most, seconds, 0, limits)
         ordered = in_order(ordered, result.steps) if isinstance(result, Explained) else []
-        found = list(differences(ordered, limits))
+        found = list(differences(ordered, limits, why))
     return ordered, found if all(it.reason for it in found) else []
 
 

@@ -20,9 +20,10 @@ So it does in how many parts a write of more than 512 bytes goes into a pipe, an
 then: `a write of more than 512 bytes in parts (own)`. And so it does which end of a pipe has the lower number. Where
 that is the writing one, dup2 and close are added, and the ends change places.
 
-So has a history in which no calls overlap, where each call that fdref answers otherwise has one of tools/compare.py
-that is its own choice. A call that is refused has changed nothing, and of a short one the model is given what it moved;
-after another that succeeds in one of the two alone, the rest is not compared; that is told.
+So has a history where each call that fdref answers otherwise has a reason of tools/compare.py that is its own choice:
+where calls overlap, each such call in an order that explains the others. Where none do, a call that is refused has
+changed nothing, and of a short one the model is given what it moved; after another that succeeds in one of the two
+alone, the rest is not compared; that is told.
 A limit of the system that the standard leaves open is one, too: more descriptors than 32, or fewer than that and not
 fewer than 20, larger and smaller files, shorter names, ENOSPC, ENFILE, EAGAIN of fork. A write that is short for want
 of space is none, as it cannot be told from a wrong one; nor is a join that is refused.
@@ -31,8 +32,11 @@ Where none explains a history a part of it is printed that has none either. In i
 matter, and END `-` with `?` is a call of which nothing else is known. Both may be asked, too. Then comes the call that
 makes it impossible, with those that overlap it, and the page of the standard. Where no calls overlap, what fdref
 answers to it is told, and in place of the page how the system departs from the standard, if tools/compare.py knows. Of
-calls that overlap a reason is told as `perhaps`: that of the first with one, in the order in which they came back.
-Histories that differ in their times alone are searched once.
+calls that overlap a reason is told as `perhaps` where not each that is answered otherwise has one: that of the first,
+in the order in which they came back. Histories that differ in their times alone are searched once.
+
+A search is given up after --seconds or --states, and a history where its first search is. Where that finds no order
+there are up to eight more, as with larger pipes and with parts of writes, and twice 20 seconds to make a part short.
 
 After several histories the last line counts them. Exit status: 0 where all are explained, or have a reason that is
 fdref's own, 1 where one is not, 2 for wrong words and where HISTORY cannot be read, 3 where fdref could not be run or
@@ -88,6 +92,8 @@ TURNED = "where the ends of a pipe change places, by dup2 and close"
 BY_TURN = "reason: which end of a pipe has the lower number (own; page of pipe)"
 NOT_BY_TURN = f"that is told {TURNED}"
 CAPACITY = "; --pipe-capacity tells how many bytes a pipe of the system holds"
+# What is told of the answers of fdref to calls that overlap others.
+IN_ORDER = ", in an order that explains the others"
 WHERE_ROOMY = f"where a pipe has room for {ROOMY.capacity:,} bytes"
 
 EXPLAINED, NOT_EXPLAINED, WRONG_WORDS, CANNOT_RUN, NO_CALL, GIVEN_UP = 0, 1, 2, 3, 4, 5
@@ -178,9 +184,17 @@ class Orders:
             before = {at: acts for at, acts in last.instead.items() if at != last.place}
             apart.confirm(self.program, history, last.limits, before)
 
-    def at_once(self, history: Sequence[Noted], ordered: Sequence[Noted]) -> Result:
-        """Why no order explains calls that overlap: with larger pipes, where the others have too little room and that
-        is not all."""
+    def at_once(self, history: Sequence[Noted], ordered: Sequence[Noted]) -> Result | Chosen:
+        """Why no order explains calls that overlap: by choices, where one explains the others, or with larger pipes,
+        where the others have too little room and that is not all."""
+        placed, parted = apart.excused(history, self.args.limits, self.args.states, self.args.seconds, reason_or_limit)
+        for it in {it.reason: it for it in reversed(parted)}.values():
+            self.confirm(placed, it)
+        departs = next((it for it in parted if it.reason and it.reason.who != OWN), None)
+        if departs and departs.reason:
+            return self.with_reason(self.explained(history, departs.limits), told_reason(departs.reason))
+        if parted:
+            return self.chosen(parted, (), IN_ORDER)
         found = apart.possible(ordered, self.args.limits, reason_or_limit)
         if apart.is_out_of_room(ordered, self.args.limits, reason_or_limit) and not found:
             result = self.explained(history, ROOMY)
@@ -194,14 +208,18 @@ class Orders:
             return result
         self.confirm(ordered, found)
         hint = CAPACITY if apart.is_of_room(found.reason) and not self.has_room else ""
-        return result._replace(page=f"{result.page}\n{told_reason(found.reason, 'perhaps')}{hint}")
+        return self.with_reason(result, told_reason(found.reason, "perhaps") + hint)
 
-    def chosen(self, found: Sequence[apart.Apart], after: Sequence[Noted]) -> Chosen:
+    def with_reason(self, result: Result, why: str) -> Result:
+        """What is told where no order explains a history, and then why that may be."""
+        return result._replace(page=f"{result.page}\n{why}") if isinstance(result, Unexplained) else result
+
+    def chosen(self, found: Sequence[apart.Apart], after: Sequence[Noted], where: str = "") -> Chosen:
         """What is told of calls that fdref answers otherwise by choices of its own: the first for each reason."""
         first = {it.reason: it for it in reversed(found)}
         told = ["no order explains it, by a choice of fdref's own"]
         for it in reversed(first.values()):
-            told += [f"  {it.noted.text()}", self.answered(it), told_reason(it.reason)]
+            told += [f"  {it.noted.text()}", self.answered(it) + where, told_reason(it.reason)]
         if after and not found[-1].is_settled:
             told.append(f"the rest is not compared, {several(len(after), 'call')}")
         return Chosen("\n".join([*told, ""]))
@@ -282,8 +300,9 @@ def parse(words: Sequence[str]) -> argparse.Namespace:
     parser.add_argument("history", metavar="HISTORY", help="a file with histories, or - for the standard input")
     add_program(parser)
     add_capacity(parser)
-    parser.add_argument("--seconds", type=float, default=SECONDS, metavar="N", help="give a history up after so long")
-    parser.add_argument("--states", type=int, default=STATES_MOST, metavar="N", help="or after so many states")
+    parser.add_argument("--seconds", type=float, default=SECONDS, metavar="N", help=f"give a search up after so long ({SECONDS})")
+    states = f"or after so many states ({STATES_MOST:,})"
+    parser.add_argument("--states", type=int, default=STATES_MOST, metavar="N", help=states)
     parser.add_argument("--quiet", action="store_true", help="tell only of histories without order and reason")
     return parser.parse_args(words)
 
@@ -303,7 +322,8 @@ def main(words: Sequence[str]) -> int:
         orders = Orders(program, args, len(histories) == 1)
         for number, history in enumerate(histories, 1):
             which = f"history {number} of {len(histories)}, {several(len(history), 'call')}"
-            with Long(f"looks for an order of {which}, and has fdref run it", "order.py"):
+            bound = f"each search ends after {args.seconds:g} seconds (--seconds) or {args.states:,} states (--states)"
+            with Long(f"looks for an order of {which}, and has fdref run it; {bound}", "order.py"):
                 orders.answer(number, history)
     except BadHistory as fault:
         print(f"order.py: {fault}", file=sys.stderr)

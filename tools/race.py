@@ -655,7 +655,7 @@ def reason_in_race(asked: Asked, script: str, history: History) -> race_table.Re
     reason = reason_of(Race(script, history, limits))
     if reason:
         return reason
-    ordered, found = apart.excused(history, limits, STATES_MOST, SEARCH_SECONDS)
+    ordered, found = apart.excused(history, limits, STATES_MOST, SEARCH_SECONDS, reason_or_limit)
     return choice(asked, found[0], ordered) if found else None
 
 
@@ -663,7 +663,7 @@ def perhaps(asked: Asked, history: History) -> race_table.Reasoned | None:
     """What may be the reason of a history: that of a call that fdref answers otherwise, in the order in which the calls
     came back."""
     ordered = apart.came_back(history)
-    found = apart.possible(ordered, asked.limits)
+    found = apart.possible(ordered, asked.limits, reason_or_limit)
     return choice(asked, found, ordered) if found else None
 
 

@@ -4,6 +4,7 @@ import contextlib
 import io
 import os
 import stat
+import sys
 import tempfile
 from collections.abc import Iterator
 from functools import partial
@@ -371,7 +372,7 @@ SOME_BYTES = [
 # Calls that overlap, and what is told last of them.
 FORKED = f"{FILED}4 5 p0 fork = 1\n6 7 p1 attach = ok\n"
 OVERLAPPING = [
-    (FORKED, "10 20 p0 read 0 70000 = x\n15 18 p1 fstat 0 = regular 0 1", f"perhaps: {COUNT}"),
+    (FORKED, "10 20 p0 read 0 70000 = x\n15 18 p1 fstat 0 = regular 0 7", f"perhaps: {COUNT}"),
     (FORKED, "10 20 p0 read 0 9 = x61\n15 18 p1 open a r,trunc = 1", f"perhaps: {FLAGS}"),
     (FORKED, "10 12 p0 read 0 9 = x61\n15 20 p1 open a r,trunc = 1\n18 19 p0 fstat 0 = regular 0 1", "page of read"),
     (FORKED, "10 20 p0 read 0 9 = x61\n15 18 p1 fstat 0 = regular 0 1", "page of read"),
@@ -391,6 +392,13 @@ OVERLAPPING += [
         "page of open: it waits until the other end is opened",
     ),
     (BESIDE_APPEND, "20 22 p0 pread 2 0 9 = x6162\n21 30 p1 read 7 1 = x61", f"perhaps: {APPEND}"),
+    (BESIDE_APPEND, "20 22 p0 pread 2 0 9 = x6162\n21 30 p1 read 0 1 = error EBADF", f"perhaps: {APPEND}"),
+    (BESIDE_APPEND, "20 22 p0 pread 2 0 9 = x6162\n21 30 p1 getfl 0 = 1", f"reason: {APPEND}"),
+]
+# Calls that overlap, of which each that is answered otherwise has a reason that is fdref's own choice: what fdref answers.
+OVERLAPPING_CHOICES = [
+    (FORKED, "10 20 p0 read 0 70000 = x\n15 18 p1 fstat 0 = regular 0 1", "error EINVAL", COUNT),
+    (TWO, "10 20 p0 fstat 0 = pipe 0 1\n11 19 p1 write 1 x61 = 1", "pipe 1 0", STAT),
 ]
 
 
@@ -473,6 +481,9 @@ def reason_cases(program: str) -> Iterator[Case]:
     yield "after a call of no bytes", partial(is_bare, program, further, "error EBADF")
     for before, calls, end in OVERLAPPING:
         yield f"at once: {calls}", partial(ends_with, program, f"{before}{calls}\n", 1, end)
+    for before, calls, answer, reason in OVERLAPPING_CHOICES:
+        end = f"fdref answers {answer}, in an order that explains the others\nreason: {reason}"
+        yield f"choices at once: {calls}", partial(ends_with, program, f"{before}{calls}\n", 0, end)
     yield "a pipe with its ends the other way round", partial(prints, program, TURNED, 0, TURNED_LINES)
     for text, status, end in TURNS:
         yield f"turned: {text}", partial(ends_with, program, text, status, end)
@@ -669,9 +680,13 @@ def capacity_cases(program: str) -> Iterator[Case]:
     page = f"{PIPED}4 5 p0 fork = 1\n6 7 p1 attach = ok\n8 9 p0 setfl 1 -,nonblock = ok\n"
     page += "10 11 p0 write 1 61*9000 = 4096\n12 20 p0 write 1 x61 = error EAGAIN\n"
     page += "15 18 p1 write 1 x61 = error EAGAIN\n"
+    own = "fdref answers 9000, where a pipe has room for 65,536 bytes, in an order that explains the others\n"
+    own += "reason: room of a pipe (own; page of write)"
+    yield "a pipe of 4,096 bytes", partial(ends_with, program, page, 0, own)
+    bare = f"{page}21 22 p1 read 7 1 = x61\n"
     hint = "perhaps: room of a pipe (own; page of write); "
     hint += "--pipe-capacity tells how many bytes a pipe of the system holds"
-    yield "a pipe of 4,096 bytes", partial(ends_with, program, page, 1, hint)
+    yield "a pipe of 4,096 bytes, which may be a reason", partial(ends_with, program, bare, 1, hint)
     room, end = ("--pipe-capacity", "4096"), "p0 write 1 x61 = error EAGAIN"
     yield "a pipe of 4,096 bytes, as is told", partial(ends_with, program, page, 0, f"7 {end}", *room)
 
@@ -686,6 +701,24 @@ def is_searched(program: str, text: str) -> None:
     """An order of a history is found in a minute."""
     ran = told(program, text, "--quiet")
     same((0, b""), (ran.status, ran.stdout))
+
+
+def tells_bounds(program: str) -> None:
+    """Of a search that takes long it is told how long it may take, and the help tells what it takes else."""
+    with tempfile.TemporaryDirectory(prefix="fdref-") as folder:
+        file = Path(folder, "history")
+        file.write_text(GOOD)
+        # what takes a second is long here
+        code = "import functools, time, sys, order, waits\norder.Long = functools.partial(waits.Long, seconds=0.1)\n"
+        code += "found = order.Orders.answer\norder.Orders.answer = lambda *words: (time.sleep(1), found(*words))\n"
+        code += "sys.exit(order.main(sys.argv[1:]))"
+        words = ["env", f"PYTHONPATH={TOOLS}", sys.executable, "-c", code, str(file), "--program", program]
+        ran = run([*words, "--seconds", "7", "--states", "8000"])
+    bound = "each search ends after 7 seconds (--seconds) or 8,000 states (--states)"
+    told_of = f"order.py: looks for an order of history 1 of 1, 6 calls, and has fdref run it; {bound}\n"
+    same((0, GOOD_LINES, told_of), (ran.status, ran.stdout.decode(), ran.stderr.decode()))
+    help_text = run([sys.executable, str(TOOLS / "order.py"), "--help"]).stdout.decode()
+    require("so long (60)" in help_text and "states (1,000,000)" in help_text, help_text)
 
 
 def cases(program: str) -> Iterator[Case]:
@@ -711,6 +744,7 @@ def cases(program: str) -> Iterator[Case]:
     yield "quiet", partial(prints, program, four, 1, f"history 2: {BAD_LINES}{totals}", "--quiet")
     yield from reason_cases(program)
     yield "no history", partial(says_of_nothing, program)
+    yield "how long a search takes", partial(tells_bounds, program)
     yield "given up after states", partial(prints, program, GOOD, 5, "given up after 2 states\n", "--states", "1")
     yield "wrong words", partial(fails, program, GOOD, 2, "unrecognized", "--no")
     yield "no program", partial(fails, "/no/program", GOOD, 3, "no program at /no/program")

@@ -14,6 +14,7 @@ from support.places import EXAMPLES, STAND_INS, TOOLS
 from support.running import Ran, run
 from support.searching import FOREVER
 
+import apart
 import race
 import race_table
 
@@ -108,6 +109,7 @@ FLAGS = "flags that the standard leaves undefined (own) (page of open)"
 STAT = "size and links of a pipe in fstat (own) (page of fstat)"
 REFUSALS = "order of refusals, where several are due (own) (XSH 2.3)"
 APPEND = "pwrite under O_APPEND appends (the system departs) (page of write (pwrite))"
+PROCESSES = "no room for a child (own) (page of fork)"
 BARE = "no reason is known"
 APPENDING = "p0 open a rw,creat,append\np0 pwrite 2 0 x61\np0 pwrite 2 0 x62\n"
 APPENDED = f"{SETUP}10 11 p0 open a rw,creat,append = 2\n12 13 p0 pwrite 2 0 x61 = 1\n14 15 p0 pwrite 2 0 x62 = 1\n"
@@ -137,6 +139,8 @@ CHOICES = [
     (ENDS, SETUP, NOT_WOKEN, 1, BARE),
     (f"{ENDS}{APPENDING}", APPENDED, NOT_WOKEN, 1, BARE),
     (f"{ENDS}{APPENDING}", APPENDED, ["20 30 p0 pread 2 0 9 = x6162", "25 31 p1 getfl 0 = 1"], 0, APPEND),
+    # a limit of the system
+    (JOINS, JOINED, ["20 30 p0 fork = error EAGAIN", "25 31 p1 open a r = 0"], 0, PROCESSES),
 ]
 
 
@@ -148,6 +152,18 @@ def choice_is_told(tools: Tools, before: str, setup: str, calls: Sequence[str], 
     done = tools.race(*words)
     lines = done.stdout.decode().splitlines()
     require(done.status == status and lines[2].strip() == told, done.said() + f" {lines}")
+    text = setup + "".join(f"{call}\n" for call in calls)
+    if apart.is_one_by_one(read_histories(text)[0]):
+        return
+    # of calls that overlap order.py says the same, but that a departure of the system is status 1
+    history = Path(tools.folder, "choice.history")
+    history.write_text(text)
+    words = [sys.executable, str(TOOLS / "order.py"), "--program", tools.program, str(history)]
+    ordered = run(words, seconds=SECONDS)
+    last = ordered.stdout.decode().splitlines()[-1]
+    reason = told.replace(") (", "; ", 1) if told.startswith("perhaps: ") else "reason: " + told.replace(") (", "; ", 1)
+    same(1 if "the system departs" in told else status, ordered.status)
+    require(last == reason if told != BARE else not last.startswith(("reason", "perhaps")), ordered.said())
 
 
 def turned_is_not_compared(tools: Tools) -> None:
