@@ -3,7 +3,8 @@
 
 usage: tests/documents.py
 
-README has few lines and words, no line of a Markdown file is too long, and all together are short enough. Each link
+README has few lines and words, no line of a Markdown file is too long, and all together are short enough. No line of
+the definitions and proofs is too long, but for `use` lines, comments and texts that they quote. Each link
 leads to a file, and to a heading of it where it names one. Each path in backquotes is there, and each name in
 backquotes stands somewhere in the sources. Where a limit is told it is that of the code. The last line is `N passed,
 M failed`.
@@ -22,6 +23,10 @@ README = TOP / "README.md"
 README_LINES, README_WIDTH, README_WORDS = 100, 100, 620
 WIDTH = 120
 WORDS = 27_000
+# How long a line of definitions and proofs may be, which lines may be longer, and how many longer ones are still there.
+PROOFS_WIDTH = 160
+MAY_BE_LONG = re.compile(r'\s*(?:(?:pub )?use |--)|.*"(?:[^"\\]|\\.){40,}"')
+LONG = {"crates/posix_model/proofs/ChangeLaws.antt": 1, "crates/script_text/specs/Answers.antt": 1}
 
 # Where names have to stand that a document has in backquotes, and the endings of such files.
 SOURCES = ("crates", "tests", "tools", "clients", "bench", "examples", ".ci")
@@ -92,6 +97,21 @@ def is_narrow(page: str, width: int) -> None:
     """Fails at the first line of a page that has too many characters."""
     for number, line in enumerate(text_of(page).splitlines(), 1):
         require(len(line) <= width, f"line {number} has {len(line)} characters")
+
+
+def proofs() -> list[str]:
+    """All definitions and proofs, by their paths from the top folder."""
+    files = [*TOP.glob("crates/*/specs/**/*.antt"), *TOP.glob("crates/*/proofs/**/*.antt")]
+    return sorted(str(file.relative_to(TOP)) for file in files)
+
+
+def are_narrow(pages: list[str]) -> None:
+    """Fails unless there are such pages, and no line of them is too long that may not be."""
+    require(len(pages) > 100, f"only {len(pages)} files of definitions and proofs")
+    for page in pages:
+        lines = enumerate(text_of(page).splitlines(), 1)
+        found = [number for number, line in lines if len(line) > PROOFS_WIDTH and not MAY_BE_LONG.match(line)]
+        require(len(found) <= LONG.get(page, 0), f"lines of {page} have more than {PROOFS_WIDTH} characters: {found}")
 
 
 def is_at_most(most: int, count: int) -> None:
@@ -187,6 +207,7 @@ def main() -> int:
     count.check("lines of README", partial(is_at_most, README_LINES, len(README.read_text().splitlines())))
     count.check("words of README", partial(is_at_most, README_WORDS, words("README.md")))
     count.check("words of README and docs", partial(is_at_most, WORDS, sum(map(words, pages()))))
+    count.check("width of definitions and proofs", partial(are_narrow, proofs()))
     known = sources()
     for page in [*pages(), *notes()]:
         count.check(f"width of {page}", partial(is_narrow, page, README_WIDTH if page == "README.md" else WIDTH))
