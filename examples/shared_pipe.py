@@ -18,6 +18,7 @@ import subprocess
 import sys
 import tempfile
 import threading
+import time
 from collections.abc import Sequence
 from pathlib import Path
 
@@ -79,9 +80,9 @@ def joined(path: str, server: subprocess.Popen[bytes], name: str) -> fdref.Proce
     """The first process of a server that is only starting. Fails with an OSError where that ends before it serves."""
     while server.poll() is None:
         try:
-            return fdref.join(path, within=0.1)
+            return fdref.join(path)
         except (FileNotFoundError, ConnectionRefusedError):
-            continue
+            time.sleep(0.01)
     raise OSError(f"{name} ended with status {server.returncode} before it served")
 
 

@@ -2,6 +2,7 @@
 
 import contextlib
 import errno
+import math
 import os
 import queue
 import shlex
@@ -147,6 +148,10 @@ def faults(program: str) -> None:
         raises(ValueError, process.setfl, 1, os.O_SYNC)
         raises(OverflowError, process.close, 2**31)
         raises(OverflowError, process.read, 0, -1)
+        raises(TypeError, process.read, 0, 2.5)
+        raises(TypeError, process.close, "0")
+        raises(ValueError, fdref.join, server.path, -1)
+        raises(ValueError, fdref.attach, server.path, 7, math.nan)
         raised = raises(fdref.CallError, fdref.attach, server.path, 7)
         same((errno.ESRCH, 12), (raised.errno, raised.place))
         for _ in range(45):
@@ -160,6 +165,8 @@ def faults(program: str) -> None:
         same(errno.ECONNRESET, raises(ConnectionResetError, process.close, 7).errno)
         for path in (server.path, "/no/such/socket"):
             same(path, getattr(raised_by(fdref.join, path), "filename", None))
+        raised = raises(OSError, fdref.join, "a" * 200)
+        same((errno.ENAMETOOLONG, "a" * 200), (raised.errno, raised.filename))
         raises(ConnectionError, process.close, 7)
 
 
@@ -350,6 +357,28 @@ def limited(program: str) -> None:
         server.ended(report(2, 12, 10, 5))
 
 
+def one_call_at_a_time(program: str) -> None:
+    """A call that is made while one of the process waits is refused, and that one goes on."""
+    with Server(program, 2) as server:
+        with joined(server) as process:
+            same((0, 1), process.pipe())
+            with fdref.attach(server.path, process.fork()) as other:
+                met: list[Exception | None] = []
+
+                def waits(place: int, moved: int) -> None:
+                    met.append(raised_by(process.read, 0, 1))
+                    thread = threading.Thread(target=lambda: met.append(raised_by(process.fstat, 0)))
+                    thread.start()
+                    thread.join(SECONDS)
+                    other.write(1, b"hello")
+
+                process.on_wait = waits
+                same(b"hello", process.read(0, 9))
+                same([RuntimeError, RuntimeError], [type(it) for it in met])
+                same(0, process.fstat(0).st_size)
+        server.ended(report(2, 11, 5, 5))
+
+
 EXAMPLE = b"""\
 0 the parent is process 0
 1 the parent makes a pipe: it reads from 0 and writes to 1
@@ -534,6 +563,7 @@ def cases(program: str) -> Iterator[Case]:
     for is_taken in (False, True):
         yield f"a server that ends, connection taken: {is_taken}", partial(with_an_ended_server, is_taken)
     yield "answers with a limit", partial(limited, program)
+    yield "a call within a call", partial(one_call_at_a_time, program)
     yield "the example with a server of its own", partial(example, program, True)
     yield "the example with a server that is there", partial(example, program, False)
     for words, why in NO_SERVER:

@@ -38,7 +38,9 @@ What a call can end in:
     has ended then, as it has after a call that is broken off in any other way, by KeyboardInterrupt or
     by what `on_wait` or the handler of a signal raises, which comes out of the call as it is;
   - `NoAnswer`, a TimeoutError, where no answer came within `process.timeout`. The process has ended then, too;
-  - OverflowError or ValueError, where an argument has no place in a request. Nothing was sent.
+  - OverflowError, ValueError or TypeError, where an argument has no place in a request. Nothing was sent;
+  - RuntimeError, where a call of the process is under way, in another thread, or where `on_wait` or the handler of a
+    signal makes one. Nothing was sent, and that call goes on.
 
 `write_trace` and `read_trace` need no server. An emulator that has run calls of its own writes them as a
 trace, which `fdref audit FILE` judges:
@@ -72,11 +74,13 @@ from __future__ import annotations
 
 import errno
 import math
+import operator
 import os
 import select
 import socket
 import stat
 import struct
+import threading
 import time
 import warnings
 from collections.abc import Callable, Iterable, Sequence
@@ -182,7 +186,7 @@ def join(path: str | os.PathLike[str], within: float = 0) -> Process:
     `within` is in seconds. A server that is only starting is waited for so long, and its first answer no longer than
     that from the call on; where it is 0 the server has to be there, and its first answer is waited for FIRST_ANSWER
     seconds. NoPlace: the connection was made, and no answer came. ConnectionResetError: the server ended before that,
-    or had no memory or no thread for the process.
+    or had no memory or no thread for the process. Less than 0 is a ValueError.
     """
     return Process(path, b"\x01", within=within)
 
@@ -208,9 +212,13 @@ class Process:
         """The last call's waiting: for each answer that it waits, the place, and how many bytes it had moved."""
         self.on_wait: Callable[[int, int], Any] | None = None
         """Called with a place and a number of bytes when an answer tells that the call waits."""
+        if not within >= 0:
+            raise ValueError(f"a limit of {within} seconds leaves no time for a server")
         self._path = os.fspath(path)
         self._timeout: float | None = None
         self._entered_by = os.getpid()
+        # held while a call is under way
+        self._turn = threading.Lock()
         self._received = bytearray()
         self._socket = socket.socket(socket.AF_UNIX, socket.SOCK_STREAM)
         # whatever waits does so by `_wait`
@@ -256,7 +264,7 @@ class Process:
     def _connect(self, until: float, until_placed: float) -> None:
         """Connects; until the first time also where nobody listens there yet, and until the second one also where so
         many others wait to be taken that the system has no room for one more."""
-        while number := self._socket.connect_ex(self._path):
+        while number := self._tried():
             if number == errno.EAGAIN:
                 # the queue is full
                 if time.monotonic() >= until_placed:
@@ -264,6 +272,16 @@ class Process:
             elif number not in (errno.ENOENT, errno.ECONNREFUSED) or time.monotonic() >= until:
                 raise OSError(number, os.strerror(number), self._path)
             time.sleep(0.01)
+
+    def _tried(self) -> int:
+        """Tries to connect once: 0, or the error number."""
+        try:
+            return self._socket.connect_ex(self._path)
+        except OSError as fault:
+            # a path that is too long for a socket is told without a number
+            if fault.errno is not None:
+                raise
+            return errno.ENAMETOOLONG
 
     def __enter__(self) -> Process:
         self._entered_by = os.getpid()
@@ -397,15 +415,19 @@ class Process:
 
     def _ask(self, request: bytes) -> Any:
         """Asks. A call that is broken off ends the process, since the next call would be given its answers."""
-        if self._socket.fileno() < 0:
-            raise ConnectionError("the process has ended")
+        if not self._turn.acquire(blocking=False):
+            raise RuntimeError("a call of this process is under way; another thread needs a process of its own")
         try:
+            if self._socket.fileno() < 0:
+                raise ConnectionError("the process has ended")
             return self._exchange(request)
         except (CallError, Refused):
             raise
         except BaseException:
             self._close()
             raise
+        finally:
+            self._turn.release()
 
     def _exchange(self, request: bytes) -> Any:
         """Sends a request and returns the value of its reply, which is its last answer."""
@@ -581,7 +603,7 @@ def _read_outcome(some: bytes) -> Any:
 
 
 def _number(value: int, size: int, signed: bool = False) -> bytes:
-    return value.to_bytes(size, "big", signed=signed)
+    return operator.index(value).to_bytes(size, "big", signed=signed)
 
 
 def _fd(fd: int) -> bytes:
