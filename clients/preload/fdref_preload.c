@@ -231,14 +231,15 @@ static int numbered(int fd, int is_cloexec)
    First it is found whether fdref answers. If not, the function of the same name that comes after this library is
    called, and in a native run it is logged what that gave. */
 
-/* What a call is for fdref, its way, and what it came to where that is known; and of one that makes a descriptor, what
-   that leads to. */
+/* What a call is for fdref, its way, and what it came to where that is known; of one that makes a descriptor, what that
+   leads to; and of one that closes it, how often it had come to lead elsewhere. */
 struct going {
     struct fdref_act act;
     enum way way;
     int64_t done;
     struct slot slot;
     int is_cloexec;
+    unsigned stamp;
 };
 
 static int64_t gone(const struct going *it, int64_t given) { return it->way == NOTE ? noted(it->act, given) : given; }
@@ -248,10 +249,14 @@ static int64_t gone_to_lowest(const struct going *it, int64_t given)
 {
     if (is_behind)
         return given;
-    if (it->way != NOTE)
-        return numbered((int)given, it->is_cloexec);
-    tell_made(0, given);
-    return taken(noted(it->act, given), it->slot, it->is_cloexec);
+    if (it->way == NOTE) {
+        tell_made(0, given);
+        given = taken(noted(it->act, given), it->slot, it->is_cloexec);
+    } else {
+        given = numbered((int)given, it->is_cloexec);
+    }
+    end_making();
+    return given;
 }
 
 /* A call that waits for nobody. */
@@ -331,6 +336,7 @@ static int is_opened(struct going *it, int folder, const char *name, int flags)
             return next words; \
         if (is_opened(&going, folder, path, flags)) \
             return (int)going.done; \
+        begin_making(); \
         NEXT_TILL_ENDED(given, next words, &end); \
         return (int)gone_to_lowest(&going, given); \
     }
@@ -381,10 +387,12 @@ static int is_closed(struct going *it, int fd)
     }
     if (how != NATIVE)
         set_free(fd);
+    it->stamp = fd >= 0 && fd < NUMBERS ? stamps[fd] : 0;
     return 0;
 }
 
-/* A number is free once the system has closed it. What a wrong one keeps open is still what it was. */
+/* A number is free once the system has closed it. What a wrong one keeps open is still what it was, and what another
+   thread has opened meanwhile is there. */
 static void set_closed(int fd)
 {
     if (how != NATIVE || !is_alone() || !is_open_in_kernel(fd))
@@ -395,7 +403,7 @@ static int64_t gone_closed(const struct going *it, int64_t given)
 {
     int64_t done = gone(it, given);
     int error = errno;
-    if (!is_behind)
+    if (!is_behind && it->act.fd >= 0 && it->act.fd < NUMBERS && stamps[it->act.fd] == it->stamp)
         set_closed(it->act.fd);
     errno = error;
     return done;
@@ -965,6 +973,7 @@ static int is_duplicated(struct going *it, int fd)
     it->way = way_of(fd);
     it->slot = slot_of(fd);
     it->is_cloexec = 0;
+    begin_making();
     if (how != ASKED)
         return 0;
     if (it->way == ASK)
@@ -1085,7 +1094,9 @@ static int64_t gone_from(const struct going *it, int from, int64_t given)
     tell_made(from, given);
     if (it->way == NOTE && (given >= 0 || !is_due))
         noted(fdref_act_dup2(fd, due), given);
-    return taken(given, slot_of(fd), it->is_cloexec);
+    given = taken(given, slot_of(fd), it->is_cloexec);
+    end_making();
+    return given;
 }
 
 static void set_nonblock_at(int end)
@@ -1148,6 +1159,7 @@ static int is_pipe_made(struct going *it, int ends[2], int flags)
         it->way = PASS;
     }
     it->done = it->way == ASK ? ALONE(pipe_ours(ends, flags)) : 0;
+    begin_making();
     return it->way == ASK;
 }
 
@@ -1157,10 +1169,13 @@ static int64_t gone_to_pipe(const struct going *it, int ends[2], const int made[
     ends[1] = made[1];
     if (is_behind)
         return given;
-    if (it->way != NOTE)
-        return given < 0 ? given : pipe_real(ends, made, flags);
-    given = ALONE(pipe_noted(ends, flags, given));
-    tell_made(0, given < 0 ? given : made[0] > made[1] ? made[0] : made[1]);
+    if (it->way == NOTE) {
+        given = ALONE(pipe_noted(ends, flags, given));
+        tell_made(0, given < 0 ? given : made[0] > made[1] ? made[0] : made[1]);
+    } else if (given >= 0) {
+        given = pipe_real(ends, made, flags);
+    }
+    end_making();
     return given;
 }
 

@@ -242,6 +242,8 @@ static int is_controlled(struct going *it, int fd, int command, int argument)
     it->way = way_of(fd);
     it->act = fdref_act_dup2(fd, how == NATIVE && is_duplicating(command) && is_alone() ? number_from(argument) : -1);
     it->is_cloexec = command == F_DUPFD_CLOEXEC;
+    if (is_duplicating(command))
+        begin_making();
     if (how == ASKED && is_duplicating(command))
         it->done = ALONE(dup_from_asked(fd, argument, it->is_cloexec));
     else if (it->way == ASK)
@@ -427,6 +429,7 @@ static pid_t fork_natively(pid_t (*next)(void))
         native_number = number;
         say_exit(own_pid, -1);
         forget_threads();
+        forget_others();
         note_handlers();
     }
     if (made > 0)

@@ -206,11 +206,21 @@ static int any_real(void)
 /* Whether another thread may have made a native descriptor another one beside this table. */
 static int is_doubtful;
 
+/* How often each number has come to lead elsewhere. */
+static unsigned stamps[NUMBERS];
+
+/* How many threads are in a native call that makes a descriptor, which has no place in the table yet; and the numbers
+   that were found open meanwhile, which may be of these calls. */
+static int makers;
+static char are_suspect[NUMBERS];
+
 static void take(int fd, struct slot slot, int is_cloexec)
 {
     if (fd < 0 || fd >= NUMBERS)
         return;
     is_doubtful = is_doubtful || (how == NATIVE && !is_alone());
+    stamps[fd]++;
+    are_suspect[fd] = 0;
     slots[fd] = slot;
     slots[fd].is_cloexec = is_cloexec;
     known[fd] = slot.held != FREE;
@@ -230,19 +240,75 @@ static void set_free(int fd)
     take(fd, slot, 0);
 }
 
+/* Tells a number that is open though no call known to fdref has made it, once. */
+static void tell_unknown(int fd)
+{
+    char number[12];
+    snprintf(number, sizeof number, "%d", fd);
+    known[fd] = 1;
+    goes_past_natively('!', "made", number);
+}
+
+/* Tells those that no other call had made after all. */
+static void tell_suspects(void)
+{
+    for (int at = 0; at < NUMBERS; at++)
+        if (are_suspect[at] && !known[at])
+            tell_unknown(at);
+    memset(are_suspect, 0, sizeof are_suspect);
+}
+
+static int64_t count_makers(int more)
+{
+    makers += more;
+    if (makers == 0)
+        tell_suspects();
+    return 0;
+}
+
+/* A thread begins, or ends, a native call that makes a descriptor. */
+static void begin_making(void)
+{
+    if (how == NATIVE && !is_behind)
+        ALONE(count_makers(1));
+}
+
+static void end_making(void)
+{
+    int error = errno;
+    if (how == NATIVE && !is_behind)
+        ALONE(count_makers(-1));
+    errno = error;
+}
+
+/* In a child of a native run no other thread is there, which may have had the lock. */
+static void forget_others(void)
+{
+    static const pthread_mutex_t is_new = PTHREAD_MUTEX_INITIALIZER;
+    mutex = is_new;
+    is_held = makers = 0;
+    memset(are_suspect, 0, sizeof are_suspect);
+}
+
+static int64_t look_below(int from, int64_t end)
+{
+    for (int at = from < 0 ? 0 : from; at < end && at < NUMBERS; at++)
+        if (!known[at] && is_open_in_kernel(at)) {
+            if (makers > 1)
+                are_suspect[at] = 1;
+            else
+                tell_unknown(at);
+        }
+    return 0;
+}
+
 /* A native call has made a descriptor, the lowest that was free from one on. Those below it are told that are open
-   though no call known to fdref has made them, each once. */
+   though no call known to fdref has made them, each once. Where other threads make some, too, that is told after. */
 static void tell_made(int from, int64_t fd)
 {
     int error = errno;
-    int64_t end = fd < 0 && error == EMFILE ? NUMBERS : fd;
-    for (int at = from < 0 ? 0 : from; how == NATIVE && at < end && at < NUMBERS; at++)
-        if (!known[at] && is_open_in_kernel(at)) {
-            char number[12];
-            snprintf(number, sizeof number, "%d", at);
-            known[at] = 1;
-            goes_past_natively('!', "made", number);
-        }
+    if (how == NATIVE)
+        ALONE(look_below(from, fd < 0 && error == EMFILE ? NUMBERS : fd));
     errno = error;
 }
 
@@ -479,6 +545,8 @@ static void end(void)
     if (own_pid != getpid())
         return;
     note_cut();
+    if (how == NATIVE)
+        tell_suspects();
     if (how != ASKED || (is_held && pthread_equal(owner, pthread_self())) || pthread_mutex_trylock(&mutex) != 0)
         return;
     be_quiet();

@@ -1,12 +1,13 @@
 /* Has processes or threads that act at once, and what each of them gets depends on who is first.
 
-   usage: judge_races excl|appends|offset|pipe|threads|leaves
+   usage: judge_races excl|appends|offset|pipe|threads|reopens|leaves
 
    excl     three children make a file by O_EXCL
    appends  two children append to a file, which is read then
    offset   two children write by one offset
    pipe     two children write to a pipe, which is read then
    threads  three threads open files, and write by one offset
+   reopens  three threads open a file, write to it, wait and write, and close it, again and again
    leaves   a child ends while a thread of it writes, again and again */
 
 #define _DEFAULT_SOURCE
@@ -17,7 +18,7 @@
 #include <sys/wait.h>
 #include <unistd.h>
 
-enum { CHILDREN = 3, WRITES = 8 };
+enum { CHILDREN = 3, WRITES = 8, REOPENS = 3 };
 
 static int ends[2], shared;
 
@@ -43,14 +44,26 @@ static void *thread(void *who)
     return fd < 0 || act("offset", *name) != 0 || close(fd) != 0 ? who : NULL;
 }
 
-static int run_threads(void)
+static void *reopen(void *who)
+{
+    char name[2] = {*(char *)who, 0};
+    for (int at = 0; at < REOPENS; at++) {
+        int fd = open(name, O_RDWR | O_CREAT, 0600), failures = fd < 0 || write(fd, name, 1) != 1;
+        usleep(50000);
+        if (failures || write(fd, name, 1) != 1 || close(fd) != 0)
+            return who;
+    }
+    return NULL;
+}
+
+static int run_threads(void *(*runs)(void *))
 {
     static char names[CHILDREN] = {'x', 'y', 'z'};
     pthread_t threads[CHILDREN];
     void *failed;
     int failures = 0;
     for (int at = 0; at < CHILDREN; at++)
-        failures += pthread_create(threads + at, NULL, thread, names + at) != 0;
+        failures += pthread_create(threads + at, NULL, runs, names + at) != 0;
     for (int at = 0; at < CHILDREN && failures == 0; at++)
         failures += pthread_join(threads[at], &failed) != 0 || failed;
     return failures;
@@ -106,7 +119,10 @@ int main(int count, char **words)
         return 1;
     if (strcmp(what, "leaves") == 0)
         return leave();
-    failures = strcmp(what, "threads") == 0 ? run_threads() : run_children(what);
+    if (strcmp(what, "threads") == 0)
+        failures = run_threads(thread);
+    else
+        failures = strcmp(what, "reopens") == 0 ? run_threads(reopen) : run_children(what);
     close(ends[1]);
     fd = strcmp(what, "pipe") == 0 ? ends[0] : open("a", O_RDONLY);
     while (read(fd, bytes, sizeof bytes) > 0)

@@ -558,6 +558,7 @@ def cases(bench: Bench) -> Iterator[Case]:
     yield "a server that leaves a process", partial(is_left_by_server, bench)
     yield "a compiler that takes too long", partial(ends_compilers, bench)
     yield "threads in a log", partial(names_threads, bench)
+    yield "slow threads in a log", partial(names_slow_threads, bench)
     yield "a process that ends beside a thread", partial(ends_beside_threads, bench)
     yield "what is kept, and standard input", partial(is_kept, bench)
     yield "standard input that is not read", partial(tells_unread, bench)
@@ -591,10 +592,12 @@ def is_kept(bench: Bench) -> None:
     same((0, b""), (audit.status, audit.stderr))
 
 
-def noted_natively(bench: Bench, word: str) -> tuple[list[list[str]], str]:
-    """The lines of the log of a race that runs natively, and what else is noted of it."""
+def noted_natively(bench: Bench, word: str, *libraries: str) -> tuple[list[list[str]], str]:
+    """The lines of the log of a race that runs natively, with these libraries after the shim, and what else is noted of
+    it."""
     with tempfile.TemporaryDirectory(prefix="fdref-") as folder:
-        env = ["env", f"LD_PRELOAD={bench.shim()}", f"FDREF_LOG={folder}/log", f"FDREF_PAST={folder}/past"]
+        loaded = ":".join([bench.shim(), *libraries])
+        env = ["env", f"LD_PRELOAD={loaded}", f"FDREF_LOG={folder}/log", f"FDREF_PAST={folder}/past"]
         same(0, run([*env, bench.compiled("judge_races"), word], seconds=SECONDS, folder=folder).status)
         log, noted = (Path(folder, name).read_text(encoding="ascii") for name in ("log", "past"))
     return [line.split(" ") for line in log.splitlines()], noted
@@ -609,6 +612,16 @@ def names_threads(bench: Bench) -> None:
     words = {place: [it[2] for it in lines if it[0] == place] for place in ("-1", "-2", "-3")}
     same(dict.fromkeys(words, ["open", *["write"] * 8, "close"]), words)
     same({"-", *words}, {it[0] for it in lines})
+
+
+def names_slow_threads(bench: Bench) -> None:
+    """So it is where opens and closes of threads take long: the numbers that others open meanwhile are theirs."""
+    library = bench.path("slow.so")
+    compiles([bench.compiler, "-O2", *WARNINGS, "-shared", "-fPIC", str(C_TESTS / "slow_calls.c"), "-o", library])
+    for word, calls in (("threads", ["open", *["write"] * 8, "close"]), ("reopens", ["open", "write", "write", "close"] * 3)):
+        lines, noted = noted_natively(bench, word, library)
+        same("", noted)
+        same([calls] * 3, [[it[2] for it in lines if it[0] == place] for place in ("-1", "-2", "-3")])
 
 
 def ends_beside_threads(bench: Bench) -> None:
