@@ -265,15 +265,25 @@ static int64_t gone_to_lowest(const struct going *it, int64_t given)
     { \
         NEXT_OF(name); \
         struct going going; \
+        type given; \
+        if (IS_INNER) \
+            return next words; \
         if (is_known) \
             return (type)going.done; \
         if (going.way == NOTE) \
             return (type)let_in(after(&going, BEHIND(next words))); \
-        return (type)after(&going, next words); \
+        WITHIN(given, next words); \
+        return (type)after(&going, given); \
     }
 
 /* What follows in a function that may wait, where `given` is what the next one gives. A handler may make calls of its
    own meanwhile, and end this one. */
+#define WITHIN(given, call) \
+    do { \
+        const void *outer = go_in(&next); \
+        given = call; \
+        within = outer; \
+    } while (0)
 #define NEXT_WITHIN(given, call) NEXT_TILL_ENDED(given, call, NULL)
 #define NEXT_TILL_ENDED(given, call, end) \
     do { \
@@ -428,15 +438,19 @@ CLOSES(close)
 typedef int closes_range(unsigned, unsigned, int);
 enum { KEEPS_TILL_EXEC = 4 };
 
+static int control_ours(int fd, int command, int argument);
+
 /* Closes the numbers below NUMBERS of a range, or keeps that an exec would, and gives the first one after these. */
 static unsigned close_low(unsigned first, unsigned last, int is_cloexec)
 {
     for (; first < NUMBERS && first <= last; first++) {
-        way_of((int)first);
-        if (is_cloexec)
-            fcntl((int)first, F_SETFD, FD_CLOEXEC);
+        struct going going;
+        if (is_cloexec && way_of((int)first) == ASK)
+            control_ours((int)first, F_SETFD, FD_CLOEXEC);
+        else if (is_cloexec)
+            system_fcntl((int)first, F_SETFD, FD_CLOEXEC);
         else if (slots[first].held != FREE)
-            close((int)first);
+            is_closed(&going, (int)first);
     }
     return first;
 }
@@ -479,10 +493,12 @@ static int note_closed(unsigned first, unsigned last, int flags, int done)
     return done;
 }
 
-static int close_between(unsigned first, unsigned last, int flags, closes_range *next)
+static int close_between(unsigned first, unsigned last, int flags, int is_own, closes_range *next)
 {
-    if (is_off() || is_behind || first > last)
+    if (is_off() || first > last)
         return next(first, last, flags);
+    if (is_behind || is_own)
+        return close_others(first, last, flags, next);
     if (how == NATIVE)
         return (int)let_in(
             note_closed(first, last, flags, (int)BEHIND_OF("close_range", close_others(first, last, flags, next))));
@@ -492,17 +508,22 @@ static int close_between(unsigned first, unsigned last, int flags, closes_range 
 int close_range(unsigned first, unsigned last, int flags)
 {
     NEXT_OF(close_range);
+    int is_own = IS_INNER;
     prepare();
-    return close_between(first, last, flags, next);
+    return close_between(first, last, flags, is_own, next);
 }
 
 /* The next one would close numbers of this library. */
 void closefrom(int first)
 {
+    static __typeof__(&close_range) next;
     static int is_noted;
+    int is_own = IS_INNER;
+    find(&next, "close_range");
     prepare();
-    answers_itself("closefrom", &is_noted);
-    close_range(first < 0 ? 0 : (unsigned)first, UINT_MAX, 0);
+    if (!is_own)
+        answers_itself("closefrom", &is_noted);
+    close_between(first < 0 ? 0 : (unsigned)first, UINT_MAX, 0, is_own, next);
 }
 
 /* A file of fdref that stdio closes, as programs do with standard output at their end. The close is not logged, since
@@ -762,12 +783,12 @@ MOVES_PARTS(writev, fdref_act_write(fd, NULL, 0))
 
    The C library would write by itself, to the placeholder. As it does, what a short write left is written again. */
 
-static int print_all(int fd, const char *text, int size)
+static int print_all(int fd, char *text, int size)
 {
     int done = 0;
     ssize_t some;
     do {
-        some = write(fd, text + done, (size_t)(size - done));
+        some = (ssize_t)asked_transfer(fdref_act_write(fd, NULL, (size_t)(size - done)), text + done);
         done += some > 0 ? (int)some : 0;
     } while (some > 0 && done < size);
     return some < 0 ? -1 : done;
@@ -1053,6 +1074,8 @@ int dup3(int fd, int to, int flags)
     NEXT_OF(dup3);
     struct going going;
     int is_refused = fd == to || (flags & ~O_CLOEXEC) != 0;
+    if (IS_INNER)
+        return next(fd, to, flags);
     prepare();
     if (is_refused)
         return how == ASKED ? (int)fails(EINVAL) : refused_dup3(next(fd, to, flags));
@@ -1146,7 +1169,9 @@ static int64_t pipe_real(int ends[2], const int made[2], int flags)
     if (ends[1] >= 0)
         return 0;
     error = errno;
-    close(ends[0] < 0 ? made[1] : ends[0]);
+    if (ends[0] >= 0)
+        ALONE(close_real(ends[0]));
+    system_close(made[1]);
     return fails(error);
 }
 
@@ -1187,6 +1212,12 @@ static int64_t gone_to_pipe(const struct going *it, int ends[2], const int made[
         struct going going; \
         int made[2] = {-1, -1}, both[2] = {-1, -1}; \
         int64_t done; \
+        if (IS_INNER) { \
+            done = next words; \
+            if (done == 0) \
+                memcpy(ends, made, sizeof made); \
+            return (int)done; \
+        } \
         if (is_pipe_made(&going, both, flags)) \
             done = going.done; \
         else if (going.way == NOTE) \

@@ -66,15 +66,16 @@ static void note_look(int done, mode_t mode, uint64_t size, uint64_t links)
 #define LOOKS(function, parameters, words, folder, flags) \
     int function parameters \
     { \
-        static __typeof__(&function) next; \
+        NEXT_OF(function); \
         struct file file; \
-        int done = look("stat", folder, name, flags, &file); \
+        int done; \
+        if (IS_INNER) \
+            return next words; \
+        done = look("stat", folder, name, flags, &file); \
         if (done == 0) \
             FILL(to, file); \
-        if (done > 0) { \
-            find(&next, #function); \
-            done = next words; \
-        } \
+        if (done > 0) \
+            WITHIN(done, next words); \
         if (looked_at) \
             note_look(done, done < 0 ? 0 : to->st_mode, done < 0 ? 0 : (uint64_t)to->st_size, \
                       done < 0 ? 0 : (uint64_t)to->st_nlink); \
@@ -84,17 +85,22 @@ static void note_look(int done, mode_t mode, uint64_t size, uint64_t links)
 #define LOOKS_AT(function, parameters, words) \
     int function parameters \
     { \
-        static __typeof__(&function) next; \
-        enum way way = way_of(fd); \
+        NEXT_OF(function); \
+        enum way way; \
         struct file file; \
-        int done = way == ASK ? (int)ALONE(told(ask(fdref_act_fstat(fd)), fd, &file)) : 1; \
+        int done; \
+        if (IS_INNER) \
+            return next words; \
+        way = way_of(fd); \
+        done = way == ASK ? (int)ALONE(told(ask(fdref_act_fstat(fd)), fd, &file)) : 1; \
         if (done == 0) \
             FILL(to, file); \
         if (done <= 0) \
             return done; \
-        find(&next, #function); \
-        if (way == PASS) \
-            return next words; \
+        if (way == PASS) { \
+            WITHIN(done, next words); \
+            return done; \
+        } \
         done = (int)BEHIND(next words); \
         let_in(seen(fd, done, done < 0 ? 0 : to->st_mode, done < 0 ? 0 : (uint64_t)to->st_size, \
                     done < 0 ? 0 : (uint32_t)to->st_nlink)); \
@@ -273,20 +279,23 @@ static int64_t gone_by(const struct going *it, int command, int argument, int64_
         va_start(values, command); \
         argument = va_arg(values, void *); \
         va_end(values); \
+        if (IS_INNER) \
+            return next(fd, command, argument); \
         number = (int)(intptr_t)argument; \
         if (is_controlled(&going, fd, command, number)) \
             return (int)going.done; \
         if (going.way == NOTE && is_commanded(command)) \
             return (int)let_in(gone_by(&going, command, number, BEHIND(next(fd, command, argument)))); \
-        return (int)gone_by(&going, command, number, next(fd, command, argument)); \
+        WITHIN(number, next(fd, command, argument)); \
+        return (int)gone_by(&going, command, (int)(intptr_t)argument, number); \
     }
 
 CONTROLS(fcntl)
 
 static int64_t set_nonblock(int fd, int is_set)
 {
-    int flags = fcntl(fd, F_GETFL);
-    return flags < 0 ? flags : fcntl(fd, F_SETFL, is_set ? flags | O_NONBLOCK : flags & ~O_NONBLOCK);
+    int flags = control_ours(fd, F_GETFL, 0);
+    return flags < 0 ? flags : control_ours(fd, F_SETFL, is_set ? flags | O_NONBLOCK : flags & ~O_NONBLOCK);
 }
 
 /* Logs that the system was to set O_NONBLOCK alone. */
@@ -305,13 +314,16 @@ int ioctl(int fd, int command, ...)
 #endif
 {
     NEXT_OF(ioctl);
-    enum way way = way_of(fd);
+    enum way way;
     int flags;
     void *argument;
     va_list values;
     va_start(values, command);
     argument = va_arg(values, void *);
     va_end(values);
+    if (IS_INNER)
+        return next(fd, command, argument);
+    way = way_of(fd);
     if (way == ASK && command == FIONBIO)
         return (int)set_nonblock(fd, *(const int *)argument);
     if (way == NOTE && command == FIONBIO) {
@@ -319,7 +331,8 @@ int ioctl(int fd, int command, ...)
         return (int)let_in(nonblock_noted(fd, *(const int *)argument, flags, BEHIND(next(fd, command, argument))));
     }
     if (way != ASK) {
-        int given = next(fd, command, argument);
+        int given;
+        WITHIN(given, next(fd, command, argument));
         if (way == NOTE && given == 0 && slot_of(fd).held != FREE && (command == FIOCLEX || command == FIONCLEX))
             set_cloexec(fd, command == FIOCLEX);
         return given;
@@ -362,7 +375,13 @@ static int is_synced(struct going *it, int fd)
     { \
         NEXT_OF(name); \
         struct going going; \
-        return is_synced(&going, fd) ? (int)going.done : next(fd); \
+        int given; \
+        if (IS_INNER) \
+            return next(fd); \
+        if (is_synced(&going, fd)) \
+            return (int)going.done; \
+        WITHIN(given, next(fd)); \
+        return given; \
     }
 SYNCS(fsync)
 SYNCS(fdatasync)
@@ -400,7 +419,7 @@ static int64_t fork_asked(pid_t (*next)(void))
         end_with(NO_ANSWER, "the child cannot be attached: %s", fdref_no_process(errno));
     child->socket = hidden(child->socket);
     is_forking = 1;
-    made = next();
+    WITHIN(made, next());
     error = errno;
     is_forking = 0;
     if (made > 0)
@@ -423,7 +442,7 @@ static pid_t fork_natively(pid_t (*next)(void))
     int error;
     begin_call();
     number = __atomic_fetch_add(&shared->next_number, 1, __ATOMIC_SEQ_CST);
-    made = next();
+    WITHIN(made, next());
     if (made == 0) {
         own_pid = getpid();
         native_number = number;
@@ -444,22 +463,34 @@ static pid_t fork_natively(pid_t (*next)(void))
     return made;
 }
 
+static pid_t forked(pid_t (*next)(void), int is_own)
+{
+    prepare();
+    if (is_off() || is_own)
+        return next();
+    return how == NATIVE ? fork_natively(next) : (pid_t)ALONE(fork_asked(next));
+}
+
 #define FORKS(name) \
     pid_t name(void) \
     { \
         NEXT_OF(name); \
-        prepare(); \
-        return is_off() ? next() : how == NATIVE ? fork_natively(next) : (pid_t)ALONE(fork_asked(next)); \
+        return forked(next, IS_INNER); \
     }
 FORKS(fork)
 
 /* What shares its memory with its parent could not be told from that. */
-pid_t vfork(void)
-{
-    prepare();
-    goes_past('-', "vfork", "fork", NULL);
-    return fork();
-}
+#define FORKS_FOR(name) \
+    pid_t name(void) \
+    { \
+        NEXT_OF(fork); \
+        int is_own = IS_INNER; \
+        prepare(); \
+        if (!is_own) \
+            goes_past('-', "vfork", "fork", NULL); \
+        return forked(next, is_own); \
+    }
+FORKS_FOR(vfork)
 
 /* Notes a child that has ended, where its parent is told of it, and its number is known; one that a signal ended in any
    case. */
@@ -564,10 +595,12 @@ static void check_wait(const struct waiting *it, pid_t child, int status)
         struct waiting waiting; \
         int own = 0, *status = given ? given : &own; \
         pid_t child; \
-        prepare(); \
         find(&next, #name); \
+        if (IS_INNER) \
+            return next words; \
+        prepare(); \
         waiting = begin_waiting(#name, which, options); \
-        child = next words; \
+        WITHIN(child, next words); \
         check_wait(&waiting, child, child > 0 ? *status : 0); \
         return child > 0 ? ended_child(child, *status) : child; \
     }
@@ -584,12 +617,14 @@ int waitid(idtype_t kind, id_t which, siginfo_t *given, int options)
     siginfo_t own, *to = given ? given : &own;
     struct waiting waiting;
     int done, is_ended;
-    prepare();
     find(&next, "waitid");
+    if (IS_INNER)
+        return next(kind, which, given, options);
+    prepare();
     memset(&own, 0, sizeof own);
     waiting = begin_waiting("waitid", kind == P_PID ? (pid_t)which : kind == P_ALL ? -1 : 0, options & ~WEXITED);
     waiting.is_known = waiting.is_known && (options & (WEXITED | WNOWAIT)) == WEXITED;
-    done = next(kind, which, to, options);
+    WITHIN(done, next(kind, which, to, options));
     is_ended = done == 0 && to->si_pid > 0
                && (to->si_code == CLD_EXITED || to->si_code == CLD_KILLED || to->si_code == CLD_DUMPED);
     if (is_ended || done != 0)

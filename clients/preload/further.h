@@ -20,14 +20,17 @@ static void fill_statx(struct statx *to, const struct file *file)
 
 int statx(int folder, const char *name, int flags, unsigned wanted, struct statx *to)
 {
-    static __typeof__(&statx) next;
+    NEXT_OF(statx);
     struct file file;
-    int done = look("statx", folder, name, flags, &file);
+    int done;
+    if (IS_INNER)
+        return next(folder, name, flags, wanted, to);
+    done = look("statx", folder, name, flags, &file);
     if (done == 0)
         fill_statx(to, &file);
     if (done > 0)
-        find(&next, "statx");
-    return done > 0 ? next(folder, name, flags, wanted, to) : done;
+        WITHIN(done, next(folder, name, flags, wanted, to));
+    return done;
 }
 
 /* No call of fdref does what flags ask for. After ENOSYS programs do without them. */
@@ -107,7 +110,7 @@ CONTROLS(__fcntl)
 FORKS(__fork)
 FORKS(__libc_fork)
 FORKS(_Fork)
-pid_t __vfork(void) { return vfork(); }
+FORKS_FOR(__vfork)
 WAITS(__wait, (int *given), (status), -1, 0)
 WAITS(__waitpid, (pid_t which, int *given, int options), (which, status, options), which, options)
 TELLS_NUMBERS(__sysconf)

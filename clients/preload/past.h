@@ -487,7 +487,9 @@ static void hear_so(int number, siginfo_t *info, void *context, int is_plain)
     struct keeping *kept = pause_keeping();
     struct inside was = leave();
     struct ending *within_it = ending;
+    const void *before = within;
     ending = NULL;
+    within = NULL;
     note_run(number);
     runs++;
     if (is_plain && passed_on[number].plain)
@@ -495,6 +497,7 @@ static void hear_so(int number, siginfo_t *info, void *context, int is_plain)
     else if (!is_plain && passed_on[number].more)
         passed_on[number].more(number, info, context);
     ending = within_it;
+    within = before;
     come_back(was);
     go_on_keeping(kept);
 }

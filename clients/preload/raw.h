@@ -127,7 +127,7 @@ static int is_kept_open(long number, const long *given, long *done)
     *done = -1;
 #ifdef SYS_close_range
     if (number == SYS_close_range) {
-        *done = close_between((unsigned)given[0], (unsigned)given[1], (int)given[2], raw_close_range);
+        *done = close_between((unsigned)given[0], (unsigned)given[1], (int)given[2], 0, raw_close_range);
         return 1;
     }
 #endif

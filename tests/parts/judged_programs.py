@@ -547,6 +547,9 @@ def cases(bench: Bench) -> Iterator[Case]:
         yield f"writes that are torn, by {way}", partial(finds_torn_writes, bench, way)
     yield "calls that end early", partial(finds_early_ends, bench)
     yield "a read of more than was asked for", partial(finds_long_reads, bench)
+    for name, words in MAKES_MORE:
+        said = " ".join([f"judge_{name}", *words])
+        yield f"a library whose functions make further calls: {said}", partial(keeps_calls_apart, bench, name, words)
     for word, line in WRONGED.items():
         yield f"a wrong call: {word}", partial(finds_wrong_calls, bench, word, line)
     if platform.machine() == "x86_64":
@@ -686,6 +689,31 @@ def finds_long_reads(bench: Bench) -> None:
     said = ran.stdout.decode("ascii").splitlines()
     require(ran.status == 1 and {"system: p0 pread 9 1 1 = 2", NONE} <= set(said), ran.said())
     require(said[-1].startswith("verdict: a difference: "), ran.said())
+
+
+# Programs that are judged with a library whose functions make further calls.
+MAKES_MORE: list[tuple[str, tuple[str, ...]]] = [
+    ("agrees", ()),
+    ("family", ()),
+    ("wronged", ("stat-size",)),
+    ("wronged", ("wait-status",)),
+    ("wronged", ("dup2-zero",)),
+]
+
+
+def keeps_calls_apart(bench: Bench, name: str, words: tuple[str, ...]) -> None:
+    """The calls that a function of a C library makes are none of the program. What it gives is judged."""
+    library = bench.path("calls-more.so")
+    if not os.path.exists(library):
+        source = str(C_TESTS / "calls_more.c")
+        compiles([bench.compiler, "-O2", *WARNINGS, "-shared", "-fPIC", source, "-o", library, "-ldl"])
+    given = ("--shim", bench.shim(), "--preload", library, bench.compiled(f"judge_{name}"), *words)
+    ran = bench.judged(*given)
+    require(ran.status == 0 and b"no answer differs" in ran.stdout.splitlines()[-1], ran.said())
+    if name == "agrees":
+        ran = bench.judged(*given, variables=("WRONG=read",))
+        last = ran.stdout.decode("ascii").splitlines()[-1]
+        require(ran.status == 1 and last.startswith(DIFFERS), ran.said())
 
 
 DIFFERS = "verdict: a difference: "
