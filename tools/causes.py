@@ -357,7 +357,8 @@ class Causes:
         if is_timed or any(it.kind == past.TIMER for it in before):
             return TIMERS
         handled = self.handled(parting.place)
-        return " or ".join([handled] * bool(handled) + [self.told_to(parting, before)])
+        erring = past.told_errno(self.native)
+        return " or ".join([handled] * bool(handled) + [erring] * bool(erring) + [self.told_to(parting, before)])
 
     def told_to(self, parting: Parting, before: list[Past]) -> str:
         """What a program may have been told by which it makes another call."""

@@ -66,10 +66,10 @@ The last line says what the exit status means:
    why: a reason, an order that was not decided on, what is told to go past fdref before it (tools/causes.py has
    what is known to be harmless), a thread that waits and holds its process, a child that a signal ended, a
    descriptor that no call of fdref made, and a right. Or no order gives the answers; or the audit finds a fault. Or
-   a call of the system does what it may not beside its answer: it blocks other signals, SIGPIPE comes otherwise than
-   once with EPIPE, SA_RESTART is set otherwise, it goes on after a signal that ends it (as x86-64 tells), a wait
-   tells otherwise of a child than the kernel, an exec gives a program other words, a read changes what is beyond its
-   buffer; or it has not come back to the end
+   a call of the system does what it may not beside its answer: it sets errno to 0, or fails without setting it,
+   blocks other signals, SIGPIPE comes otherwise than once with EPIPE, SA_RESTART is set otherwise, it goes on after a
+   signal that ends it (as x86-64 alone tells), a wait tells otherwise of a child than the kernel, an exec gives a
+   program other words, a read changes what is beyond its buffer; or it has not come back to the end
 2  wrong words
 3  not judged: answers differ that have a reason; or one of these may be why; or a process makes another call, so
    that its program went another way, as by the time, a timer, the number of a process, an address or a mode; or
@@ -755,9 +755,10 @@ class Verdict:
         late = [it.why() for it in self.causes.every if it.kind == past.SIGNAL]
         if late or self.is_timed():
             return late[0] if late else causes.TIMERS
+        others = [it for it in (handled, past.told_errno(self.native)) if it]
         is_of_modes = past.has_looked(self.past, self.compared.records)
         numbers = f"which process came first, {UNTOLD}" if self.compared.processes > 1 else UNTOLD
-        return " or ".join([handled] * bool(handled) + [causes.MODES if is_of_modes else numbers])
+        return " or ".join([*others, causes.MODES if is_of_modes else numbers])
 
     def counted(self) -> list[Finding]:
         """The findings that no order explains."""

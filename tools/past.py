@@ -6,6 +6,7 @@ A line is `! 6 p0 stream fopen`, and after a tab the name that the call has, if 
 
 import errno
 import re
+from collections.abc import Sequence
 from typing import NamedTuple
 
 from support.runs import Line
@@ -42,6 +43,8 @@ OWN = "own"
 WRONG = "wrong"
 # A native call that a signal may have ended, whose number stands after the call, and that has not ended by it.
 UNENDED = "unended"
+# A native call that has not failed, and has set errno.
+ERRNO = "errno"
 COUNTED = {
     PATH: "path",
     STREAM: "stream",
@@ -53,7 +56,7 @@ COUNTED = {
 MANY = {MAKES: "descriptors of the system"}
 
 # Kinds that have changed nothing in the native run which has no line, or are asked for by themselves.
-UNDOUBTED = (THREAD, SIGNAL, VFORK, CUT, INTERRUPT, TIMER, MADE, HANDLER, MAKES, RIGHTS, LOOK, OWN, WRONG, UNENDED)
+UNDOUBTED = (THREAD, SIGNAL, VFORK, CUT, INTERRUPT, TIMER, MADE, HANDLER, MAKES, RIGHTS, LOOK, OWN, WRONG, UNENDED, ERRNO)
 
 # Calls that look, or hasten what comes anyway: they change no file, but may tell something else than natively.
 LOOKS = re.compile(
@@ -104,7 +107,7 @@ class Past(NamedTuple):
 
     def is_past(self) -> bool:
         """Whether it is a call that went past fdref, and not what holds one of fdref."""
-        return self.kind not in (THREAD, SIGNAL, MADE, INTERRUPT, HANDLER, MAKES, RIGHTS, LOOK, OWN, WRONG, UNENDED)
+        return self.kind not in (THREAD, SIGNAL, MADE, INTERRUPT, HANDLER, MAKES, RIGHTS, LOOK, OWN, WRONG, UNENDED, ERRNO)
 
     def why(self) -> str:
         """The same as what a difference may be by."""
@@ -276,6 +279,12 @@ def looked_apart(native: list[Past], every: list[Past]) -> tuple[str, str, str] 
         if system.name != fdref.name and not is_own:
             return system.call, system.name, fdref.name
     return None
+
+
+def told_errno(native: Sequence[Past]) -> str:
+    """That a native call has set errno though it has not failed, which a program may not go by, or nothing."""
+    found = next((it for it in native if it.kind == ERRNO), None)
+    return f"errno after a {found.call} that has not failed, which a program may not go by" if found else ""
 
 
 def cuts(every: list[Past]) -> bool:

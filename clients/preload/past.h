@@ -488,6 +488,7 @@ static void hear_so(int number, siginfo_t *info, void *context, int is_plain)
     struct inside was = leave();
     struct ending *within_it = ending;
     const void *before = within;
+    int error = pause_erring(), there = errno_there;
     ending = NULL;
     within = NULL;
     note_run(number);
@@ -498,6 +499,8 @@ static void hear_so(int number, siginfo_t *info, void *context, int is_plain)
         passed_on[number].more(number, info, context);
     ending = within_it;
     within = before;
+    errno_there = there;
+    go_on_erring(error);
     come_back(was);
     go_on_keeping(kept);
 }

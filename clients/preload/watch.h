@@ -112,10 +112,68 @@ static void check_gone_on(const struct ending *it, const char *name, int64_t giv
     errno = error;
 }
 
-/* ---- the signals that are blocked */
+/* ---- errno
+
+   No function may set it to 0, and one that fails has to set it. So a native call finds a number in it that no function
+   gives, in place of what was there. One that does not fail may set it, which a program has not to look at. */
 
 /* How many handlers that this library calls have run in this thread. */
 static __thread unsigned runs;
+
+enum { NOT_SET = 1 << 20 };
+
+/* What errno was before a native call, and how many handlers had run. */
+struct erring {
+    int is_known, before;
+    unsigned runs;
+};
+
+/* What it was before the call that this thread is in, for handlers that come meanwhile. */
+static __thread int errno_there;
+
+static struct erring begin_erring(int is_own)
+{
+    struct erring it = {is_watching() && is_own, errno, runs};
+    if (it.is_known) {
+        errno_there = errno;
+        errno = NOT_SET;
+    }
+    return it;
+}
+
+static int64_t end_erring(const struct erring *it, const char *name, int64_t given)
+{
+    int error = errno, is_set = error != NOT_SET;
+    if (it->is_known && !is_set)
+        error = it->before;
+    errno = error;
+    if (!it->is_known || it->runs != runs)
+        return given;
+    if (is_set && error == 0)
+        note_wrong(name, "has set errno to 0, as no function may");
+    else if (!is_set && given < 0)
+        note_wrong(name, "has failed, and has not set errno");
+    else if (is_set && given >= 0 && strcmp(name, "isatty") != 0)
+        notes("errno", name, NULL);
+    errno = error;
+    return given;
+}
+
+/* What a handler finds in errno, and what the call in which it runs goes on with. */
+static int pause_erring(void)
+{
+    int error = errno;
+    errno = error == NOT_SET ? errno_there : error;
+    return error;
+}
+
+static void go_on_erring(int error)
+{
+    if (error == NOT_SET && errno == errno_there)
+        errno = error;
+}
+
+/* ---- the signals that are blocked */
 
 /* What was blocked before a native call that may wait, how many handlers had run, and what ends this call, and the one
    around it. */
@@ -124,16 +182,20 @@ struct masked {
     unsigned runs;
     sigset_t signals;
     struct ending *own, *outer;
+    struct erring erring;
 };
 
 static struct masked before_call(const char *name, struct ending *own)
 {
-    struct masked before = {is_watching(), runs, {{0}}, own, ending};
+    struct masked before = {is_watching(), runs, {{0}}, own, ending, {0, 0, 0}};
+    int error = errno;
     if (before.is_known)
         say_inside(own_pid, (uint64_t)native_number + 1, name);
     if (before.is_known)
         before.is_known = pthread_sigmask(SIG_BLOCK, NULL, &before.signals) == 0;
     ending = before.is_known ? own : NULL;
+    errno = error;
+    before.erring = begin_erring(!is_behind);
     return before;
 }
 
@@ -158,8 +220,10 @@ static int are_same(const sigset_t *one, const sigset_t *other)
 /* A handler may change what is blocked, and a call may not. */
 static void after_call(const struct masked *before, const char *name, int64_t given)
 {
-    int error = errno;
+    int error;
     sigset_t now;
+    end_erring(&before->erring, name, given);
+    error = errno;
     ending = before->outer;
     if (before->own)
         check_gone_on(before->own, name, given);
@@ -197,7 +261,7 @@ static int is_idle(int number)
 
 static struct masked mask_behind(void)
 {
-    struct masked before = {is_watching(), runs, {{0}}, NULL, NULL};
+    struct masked before = {is_watching(), runs, {{0}}, NULL, NULL, {0, 0, 0}};
     sigset_t idle;
     int error = errno;
     sigemptyset(&idle);
@@ -208,6 +272,7 @@ static struct masked mask_behind(void)
         before.is_known = pthread_sigmask(SIG_UNBLOCK, &idle, NULL) == 0
                           && pthread_sigmask(SIG_BLOCK, NULL, &before.signals) == 0;
     errno = error;
+    before.erring = begin_erring(1);
     return before;
 }
 
@@ -215,8 +280,10 @@ static __thread struct masked masked_behind;
 
 static int64_t looked_at_mask(const char *name, int64_t value)
 {
-    int error = errno;
+    int error;
     sigset_t now;
+    end_erring(&masked_behind.erring, name, value);
+    error = errno;
     if (masked_behind.is_known && masked_behind.runs == runs && pthread_sigmask(SIG_BLOCK, NULL, &now) == 0
         && !are_same(&masked_behind.signals, &now))
         note_wrong(name, "has changed which signals are blocked");

@@ -4,6 +4,7 @@
 
 #define _GNU_SOURCE
 
+#include <errno.h>
 #include <fcntl.h>
 #include <pthread.h>
 #include <signal.h>
@@ -291,6 +292,17 @@ static void seek_astray(void)
     lseek(fd, -1, SEEK_END);
 }
 
+/* Prints errno after a call that has not failed, and after one that has. */
+static void tell_errors(void)
+{
+    int fd = open("a", O_RDWR | O_CREAT, 0600);
+    errno = EDOM;
+    lseek(fd, 0, SEEK_CUR);
+    printf("%d", errno);
+    errno = EDOM;
+    printf(" %d %d\n", truncate("b", 1), errno);
+}
+
 int main(int count, char **words)
 {
     static const struct {
@@ -312,6 +324,8 @@ int main(int count, char **words)
         {"end", end},                   {"dup3-same", copy_same},
         {"whence-taken", seek_astray},  {"whence-piped", seek_astray},
         {"end-lost", seek_astray},
+        {"errno-zeroed", tell_errors},  {"errno-set", tell_errors},
+        {"errno-kept", tell_errors},
         {"access-refused", ask},        {"read-beyond", take_few},
         {"cloexec-thread", keep_flags_after_thread},
         {"restart-lost", restart},      {"never-beside", read_beside},

@@ -34,7 +34,10 @@
    read-crashes    a read ends the process by SIGSEGV
    whence-taken    lseek takes any whence for SEEK_SET
    whence-piped    lseek in a pipe gives 0 for a whence that there is not
-   end-lost        lseek takes SEEK_END for SEEK_SET */
+   end-lost        lseek takes SEEK_END for SEEK_SET
+   errno-zeroed    lseek sets errno to 0
+   errno-set       lseek sets errno to ENOTTY
+   errno-kept      truncate fails, and does not set errno */
 
 #define _GNU_SOURCE
 
@@ -205,7 +208,18 @@ off_t lseek(int fd, off_t offset, int whence)
         whence = SEEK_SET;
     if (is_other && is_wrong("whence-piped") && syscall(SYS_lseek, fd, 0L, SEEK_CUR) < 0 && errno == ESPIPE)
         return 0;
-    return (off_t)syscall(SYS_lseek, fd, (long)offset, whence);
+    off_t done = (off_t)syscall(SYS_lseek, fd, (long)offset, whence);
+    if (is_wrong("errno-zeroed") || is_wrong("errno-set"))
+        errno = is_wrong("errno-set") ? ENOTTY : 0;
+    return done;
+}
+
+int truncate(const char *name, off_t length)
+{
+    int error = errno, done = (int)syscall(SYS_truncate, name, (long)length);
+    if (is_wrong("errno-kept"))
+        errno = error;
+    return done;
 }
 
 int close(int fd) { return is_wrong("close-kept") ? 0 : (int)syscall(SYS_close, fd); }

@@ -556,6 +556,7 @@ def cases(bench: Bench) -> Iterator[Case]:
         for wrong, word, status, last in GOES_ON_AFTER:
             name = f"a signal that ends a call, which {word} makes: {wrong}"
             yield name, partial(goes_on_after_signals, bench, wrong, word, status, last)
+    yield "a call that sets errno, and does not fail", partial(names_errno, bench)
     yield "the library itself in LD_PRELOAD", partial(leaves_out_itself, bench)
     yield "a program that takes long", partial(tells_long_runs, bench)
     yield "a server that leaves a process", partial(is_left_by_server, bench)
@@ -756,6 +757,8 @@ WRONGED = {
     "whence-taken": "system: p0 lseek 5 -9223372036854775808 set = 1",
     "whence-piped": f"{OF_SYSTEM}p0 lseek: has taken a whence that there is not",
     "end-lost": "system: p0 lseek 5 -1 end = error EINVAL",
+    "errno-zeroed": f"{OF_SYSTEM}p0 lseek: has set errno to 0, as no function may",
+    "errno-kept": f"{OF_SYSTEM}p0 truncate: has failed, and has not set errno",
 }
 
 
@@ -781,6 +784,14 @@ def finds_wrong_calls(bench: Bench, word: str, line: str) -> None:
 
 NOT_ENDED = f"{NOT_JUDGED}signal 10 (SIGUSR1) came in p0 read, which did not end by it: whether it waited then is not "
 ENDED = f"{NOT_JUDGED}1 answer differs with a reason: a signal ends a call (EINTR): signal 10 (SIGUSR1) has a handler"
+def names_errno(bench: Bench) -> None:
+    """That errno is set by a call that does not fail is permitted, and told as the cause of what follows from it."""
+    ran = judged_wronged(bench, "errno-set")
+    cause = "errno after a lseek that has not failed, which a program may not go by"
+    last = ran.stdout.decode("ascii").splitlines()[-1]
+    require(ran.status == 3 and last.startswith(f"{ENDS_OTHERWISE}, perhaps by {cause}"), ran.said())
+
+
 AGREES = "verdict: agreement: no answer differs"
 # What is said of a program of judge_signals with a part of a C library that goes on after a signal, or that is right.
 GOES_ON_AFTER = [
