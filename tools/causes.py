@@ -9,7 +9,7 @@ is the same, all that is told before it, of any process, may be why, but for wha
   later answer tells it. A timer and a signal in a call lead a program another way at most, and a vfork is a fork in
   both runs.
 - What changes one file, by its descriptor (OF_A_DESCRIPTOR), is harmless to a call that has another file, pipe and
-  description behind it.
+  description behind it. What stdio reads on descriptor 0 is harmless where more that was read explains no answer.
 - What changes one name, by its path (OF_A_PATH), is harmless to other names, and to what is behind these. It may not
   lead to files of fdref by another spelling, or by a descriptor (leads_to_files). What makes such a path is not here.
 - What takes a number, as a stream, which has a low one natively, is harmless where no answer tells a number, that it is
@@ -54,7 +54,7 @@ OF_A_PATH = re.compile(
     r"|l?(?:set|remove)xattr"
 )
 # Kinds that lead a program another way at most.
-ASIDE = (past.VFORK, past.INTERRUPT, past.CUT, past.TIMER, past.HANDLER, past.MAKES, past.RIGHTS, past.LOOK, past.OWN)
+ASIDE = (past.IDLE, past.VFORK, past.INTERRUPT, past.CUT, past.TIMER, past.HANDLER, past.MAKES, past.RIGHTS, past.LOOK, past.OWN)
 # Kinds by which a program may go another way, beside what tells it something else.
 LEADS = (past.SIGNAL, past.LIMIT, past.INTERRUPT, past.MAKES)
 # What makes a name that is another one in each run.
@@ -174,6 +174,30 @@ def ends_early(parting: Parting, things: frozenset[object]) -> bool:
     return is_given and any(isinstance(it, plain_model.Pipe) for it in things)
 
 
+def described(act: plain_model.Act, world: plain_model.World, *words: str) -> plain_model.Description | None:
+    """What the descriptor of a call leads to, where it is one of these and the descriptor is open."""
+    process = world.processes.get(act.actor) if isinstance(act.actor, int) and act.word in words else None
+    return process.table.get(act.fields[0]) if process else None
+
+
+def read_on(parting: Parting, act: plain_model.Act, world: plain_model.World) -> object:
+    """The pipe, or the open file, of which more was read natively where that explains an answer, or None: bytes that
+    come later, or fewer, an offset that is greater, and of a pipe that nothing is there, or room for more."""
+    at = described(act, world, "read", "write", "lseek")
+    if not at or not parting.system or not parting.fdref:
+        return None
+    system, fdref = parting.system.outcome, parting.fdref.outcome
+    given = plain_model.read_data(system.encode())
+    if at.pipe:
+        return at.pipe if given is not None or system == "error EAGAIN" or system.isdigit() else None
+    if act.word == "lseek":
+        is_greater = system.isdigit() and fdref.isdigit() and int(system) > int(fdref)
+        return at if act.fields[2] == "cur" and is_greater else None
+    data = at.regular.data
+    is_later = given is not None and given in bytes(data.read(at.offset, max(len(data) - at.offset, 0)))
+    return at if act.word == "read" and is_later else None
+
+
 def answered(parting: Parting, records: Sequence[Line]) -> int:
     """The place in the trace at which fdref answered, or where its process exited while it waited, or the end."""
     line = parting.fdref
@@ -213,6 +237,11 @@ class Causes:
         self.places = {id(it): answered(it, records) for it in partings}
         self.reached: set[int] = set()
         self.things: dict[int, frozenset[object]] = {}
+        # what was read on, as some calls tell that part; and what was written to then where it is another place
+        self.read_on: dict[int, object] = {}
+        self.astray: dict[int, frozenset[object]] = {}
+        self.inputs: set[object] = set()
+        self.moved: set[object] = set()
         self.follow(partings, limits)
         self.extents = {id(it): extent(it, folder) for it in self.every}
 
@@ -226,6 +255,8 @@ class Causes:
             for line in self.records[done:until]:
                 act = act_of(line.act)
                 passes = reach.passes(judge.world, act)
+                to = described(act, judge.world, "write")
+                self.moved |= behind(to) if to and to in self.inputs else set()
                 outcome = judge.outcome_of(act)
                 if passes:
                     reach.has_passed(judge.world, act, outcome)
@@ -246,6 +277,7 @@ class Causes:
         known = [world.names[name] for name in map(str.encode, names) if name in world.names]
         things = frozenset(behind(description) if description else known)
         self.every[at] = one._replace(names=frozenset(names), things=things)
+        self.inputs |= things if past.is_of_input(one) else set()
         if extent(one, self.folder) == ITS_OWN:
             reach.things |= things | {("name", name.encode()) for name in ({*names} if not fd else ())}
 
@@ -253,6 +285,8 @@ class Causes:
         """What a call has to do with, as it parts."""
         act = act_in(parting.fdref) if parting.is_same_call() or self.is_left(parting) else None
         if act:
+            self.read_on[id(parting)] = read_on(parting, act, world)
+            self.astray[id(parting)] = frozenset(self.moved)
             self.things[id(parting)] = frozenset(reach.of(world, act))
             if reach.reaches(world, act):
                 self.reached.add(id(parting))
@@ -281,10 +315,17 @@ class Causes:
         near = [it for it in known if it.names & finding.names or it.things & things]
         if ends_early(parting, things):
             near, known = ([it for it in some if not past.is_of_output(it)] for some in (near, known))
-        found = near or (known if id(parting) in self.reached else [])
+        found = [it for it in near or (known if id(parting) in self.reached else []) if self.can_have_read(it, parting)]
         found += [it for it in before if self.extents[id(it)] == ALL and self.can_be(it, parting)]
         found += [it for it in before if is_limit_of_numbers(it) and refuses_number(parting)]
         return found + (self.of_number(parting, before) if tells_number(parting) else [])
+
+    def can_have_read(self, one: Past, parting: Parting) -> bool:
+        """Whether a call may differ by what stdio has read, if that is it: it has been read on, or was written to where
+        the offset was another one."""
+        if not past.is_of_input(one):
+            return True
+        return self.read_on.get(id(parting)) in one.things or bool(one.things & self.astray.get(id(parting), frozenset()))
 
     def of_number(self, parting: Parting, before: list[Past]) -> list[Past]:
         """Those that may have taken a number that an answer tells. One that is refused with fdref can have been taken

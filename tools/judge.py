@@ -62,7 +62,7 @@ The last line says what the exit status means:
 0  both ended by themselves, with the same status, standard output and standard error, each answer is the
    same, or comes by another order of the same calls, and the audit finds the trace legal, whatever went past
    fdref
-1  the answer to the same call differs, or that of F_GETFD from how FD_CLOEXEC was set, and none of these may be
+1  the answer to the same call differs, or that of F_GETFD, or an exec, from how FD_CLOEXEC was set, and none of these may be
    why: a reason, an order that was not decided on, what is told to go past fdref before it (tools/causes.py has
    what is known to be harmless), a thread that waits and holds its process, a child that a signal ended, a
    descriptor that no call of fdref made, and a right. Or no order gives the answers; or the audit finds a fault. Or

@@ -35,7 +35,7 @@ MAKES = "makes"
 LOOK = "look"
 # A call by which a program may lose rights of the superuser.
 RIGHTS = "rights"
-# A native F_GETFD or F_SETFD that has answered otherwise than by the flag as it was set.
+# A native F_GETFD or F_SETFD that has answered otherwise than by the flag as it was set, or an exec that goes by another.
 CLOEXEC = "cloexec"
 # A call that the library answers by itself in both runs.
 OWN = "own"
@@ -43,6 +43,8 @@ OWN = "own"
 WRONG = "wrong"
 # A native call that a signal may have ended, whose number stands after the call, and that has not ended by it.
 UNENDED = "unended"
+# A file of fdref at descriptor 0, which stdio does not read.
+IDLE = "idle"
 # A native call that has not failed, and has set errno.
 ERRNO = "errno"
 COUNTED = {
@@ -56,7 +58,7 @@ COUNTED = {
 MANY = {MAKES: "descriptors of the system"}
 
 # Kinds that have changed nothing in the native run which has no line, or are asked for by themselves.
-UNDOUBTED = (THREAD, SIGNAL, VFORK, CUT, INTERRUPT, TIMER, MADE, HANDLER, MAKES, RIGHTS, LOOK, OWN, WRONG, UNENDED, ERRNO)
+UNDOUBTED = (THREAD, SIGNAL, VFORK, CUT, INTERRUPT, TIMER, MADE, HANDLER, MAKES, RIGHTS, LOOK, OWN, WRONG, UNENDED, ERRNO, IDLE)
 
 # Calls that look, or hasten what comes anyway: they change no file, but may tell something else than natively.
 LOOKS = re.compile(
@@ -107,7 +109,7 @@ class Past(NamedTuple):
 
     def is_past(self) -> bool:
         """Whether it is a call that went past fdref, and not what holds one of fdref."""
-        return self.kind not in (THREAD, SIGNAL, MADE, INTERRUPT, HANDLER, MAKES, RIGHTS, LOOK, OWN, WRONG, UNENDED, ERRNO)
+        return self.kind not in (THREAD, SIGNAL, MADE, INTERRUPT, HANDLER, MAKES, RIGHTS, LOOK, OWN, WRONG, UNENDED, ERRNO, IDLE)
 
     def why(self) -> str:
         """The same as what a difference may be by."""
@@ -175,7 +177,7 @@ def told_past(every: list[Past]) -> list[str]:
         more = MANY.get(kind, f"{one}s")
         told += [f"{len(said)} {more} (first {said[0]})" if said[1:] else f"1 {one} ({said[0]})"] if said else []
     lines = [f"past fdref: {', '.join(told)}"] if told else []
-    for number in sorted({it.call for it in every if it.kind == STDIO}):
+    for number in sorted({it.call for it in every if it.kind in (STDIO, IDLE)}):
         lines.append(f"past fdref: stdio on descriptor {number}, which is a file of fdref, where it would fail")
     lines += told_threads(every)
     has_forked = any(it.kind == VFORK for it in every)
@@ -241,6 +243,11 @@ def is_of_output(one: Past) -> bool:
     return one.kind == STDIO and one.call in ("1", "2")
 
 
+def is_of_input(one: Past) -> bool:
+    """Whether it is stdio on a file of fdref at the input, which natively has read there and written nothing."""
+    return one.kind == STDIO and one.call == "0"
+
+
 def made(every: list[Past]) -> list[Past]:
     """The descriptors that are open natively, and that no call made which fdref knows."""
     return [it for it in every if it.kind == MADE]
@@ -260,7 +267,9 @@ def told_flags(found: list[Past]) -> list[str]:
     if not found:
         return []
     count = several(len(found), "answer about FD_CLOEXEC differs", "answers about FD_CLOEXEC differ")
-    return [f"{count} from what was set: system: p{found[0].number} fcntl {found[0].call} {found[0].name}"]
+    first = found[0]
+    asked = "fcntl " if first.call.startswith("F_") else ""
+    return [f"{count} from what was set: system: p{first.number} {asked}{first.call} {first.name}"]
 
 
 def told_wrong(native: list[Past]) -> list[str]:

@@ -22,7 +22,8 @@
                         after a tab its name: `! 6 p0 path open<tab>d/x`, `! 6 p0 program system<tab>./a`, `! 6 p0
                         thread read`. In `! 6 p0 call poll<tab>3` it is a descriptor of fdref. Where FDREF_STRICT would
                         not tell it `-` stands for `!`: `- 6 p0 stream fopen<tab>/tmp/x`, and `- 6 p0 stdio 1`, as a
-                        file of fdref comes to be at descriptor 0, 1 or 2. `- 6 p0 own closefrom` is a call that this
+                        file of fdref comes to be at descriptor 0, 1 or 2; it is `idle 0` until stdin has a buffer. `- 6
+                        p0 own closefrom` is a call that this
                         library answers by itself in both runs. `- 6 p0 signal 11` is a child that a signal ended, as
                         wait, waitid or waitpid told, after a tab its number where that is known; `- 6 p0 vfork fork` a
                         vfork, and `- 6 p0 interrupt read` a signal in a call that waits, whose handler
@@ -37,7 +38,8 @@
                         threads may have been in a call; by `! 0 p0 made 3` a descriptor is higher since 3 is open,
                         which no call made that fdref knows; and `signal`, `look`, `handler` and `! 57 p0 cloexec
                         F_GETFD<tab>3 = 0`, with the length of the log in the place of the place: F_GETFD, or F_SETFD,
-                        has answered otherwise than by FD_CLOEXEC as this library keeps it, in a process of one thread.
+                        has answered otherwise than by FD_CLOEXEC as this library keeps it, in a process of one thread;
+                        after `cloexec execve<tab>3 = kept` or `closed` a new program does not go by it.
                         So is `! 57 p0 wrong write<tab>has changed which signals are blocked`, which no line tells,
                         `- 57 p0 unended read<tab>10`, which may have waited as a handler ran that ends calls, and
                         `- 57 p0 errno read`, which has set errno, and has not failed.
@@ -182,6 +184,7 @@
 #include <sys/single_threaded.h>
 #endif
 #include <execinfo.h>
+#include <stdio_ext.h>
 #include <fts.h>
 #include <mntent.h>
 #include <sys/fanotify.h>

@@ -704,6 +704,23 @@ static int is_same(char *const env[], const char *name)
     return here && there && strcmp(here, there) == 0;
 }
 
+/* Notes natively which descriptors a new program has or has not otherwise than by FD_CLOEXEC as it was set, each once. */
+static void check_cloexec(const char *what)
+{
+    static char are_told[NUMBERS];
+    char text[40];
+    int error = errno;
+    for (int fd = 0; is_watching() && is_alone() && !is_doubtful && fd < NUMBERS; fd++) {
+        int flags = slots[fd].held == OURS ? system_fcntl(fd, F_GETFD, 0) : -1;
+        if (flags >= 0 && !are_told[fd] && ((flags & FD_CLOEXEC) != 0) != (slots[fd].is_cloexec != 0)) {
+            are_told[fd] = 1;
+            snprintf(text, sizeof text, "%d = %s", fd, slots[fd].is_cloexec ? "kept" : "closed");
+            note_past('!', (uint64_t)log_length(), native_number, "cloexec", what, text);
+        }
+    }
+    errno = error;
+}
+
 /* The environment with what is handed on to a program with these words, or NULL where that cannot be. There is room for
    one more. */
 static char **handing(const char *what, char *const list[], char *const env[], char *handed, size_t size)
@@ -824,6 +841,7 @@ static int run(struct program program, char *const list[], char *const env[])
         leave_out("program", program.what, program.path);
         return (int)fails(ENOSYS);
     }
+    check_cloexec(program.what);
     with = handing(program.what, list, env, handed, sizeof handed);
     if (with)
         hand_files(0);
@@ -885,10 +903,12 @@ LISTS(execle, by_path)
 LISTS(execlp, sought)
 
 /* These fork in the C library, and their programs join as new processes. */
-#define RUNS(type, name, parameters, words, path) TELLS(type, name, parameters, words, "program", path, how == ASKED)
+#define RUNS(type, name, parameters, words, path) \
+    TELLS(type, name, parameters, words, "program", path, (check_cloexec(#name), how == ASKED))
 
 RUNS(FILE *, popen, (const char *command, const char *mode), (command, mode), command)
-TELLS(int, system, (const char *command), (command), "program", command, how == ASKED && command)
+TELLS(int, system, (const char *command), (command), "program", command,
+      (check_cloexec("system"), how == ASKED && command))
 RUNS(int, posix_spawn, (pid_t *pid, const char *path, const posix_spawn_file_actions_t *acts,
                         const posix_spawnattr_t *how_to, char *const list[], char *const env[]),
      (pid, path, acts, how_to, list, env), path)

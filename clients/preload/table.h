@@ -214,6 +214,31 @@ static unsigned stamps[NUMBERS];
 static int makers;
 static char are_suspect[NUMBERS];
 
+/* Whether stdin, which reads on descriptor 0, may have read since a file of fdref is there: it has a buffer then. */
+static int is_input_idle;
+
+static int has_input(void)
+{
+#ifdef __GLIBC__
+    return stdin && __fbufsize(stdin) > 0;
+#else
+    return 1;
+#endif
+}
+
+static void tell_input(void)
+{
+    is_input_idle = !has_input();
+    goes_past('-', is_input_idle ? "idle" : "stdio", "0", NULL);
+}
+
+/* The same once it has read. */
+static void tell_late_input(void)
+{
+    if (is_input_idle && has_input())
+        tell_input();
+}
+
 static void take(int fd, struct slot slot, int is_cloexec)
 {
     if (fd < 0 || fd >= NUMBERS)
@@ -224,8 +249,10 @@ static void take(int fd, struct slot slot, int is_cloexec)
     slots[fd] = slot;
     slots[fd].is_cloexec = is_cloexec;
     known[fd] = slot.held != FREE;
-    if (slot.held == OURS && fd <= 2)
-        goes_past('-', "stdio", fd == 0 ? "0" : fd == 1 ? "1" : "2", NULL);
+    if (slot.held == OURS && fd == 0)
+        tell_input();
+    else if (slot.held == OURS && fd <= 2)
+        goes_past('-', "stdio", fd == 1 ? "1" : "2", NULL);
 }
 
 static void take_real(int fd)
@@ -545,6 +572,7 @@ static void end(void)
     if (own_pid != getpid())
         return;
     note_cut();
+    tell_late_input();
     if (how == NATIVE)
         tell_suspects();
     if (how != ASKED || (is_held && pthread_equal(owner, pthread_self())) || pthread_mutex_trylock(&mutex) != 0)
@@ -859,6 +887,7 @@ static enum way way_of_ours(void)
     if (is_behind || is_off())
         return PASS;
     begin_call();
+    tell_late_input();
     return how == NATIVE ? NOTE : ASK;
 }
 

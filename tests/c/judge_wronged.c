@@ -303,6 +303,15 @@ static void tell_errors(void)
     printf(" %d %d\n", truncate("b", 1), errno);
 }
 
+/* Runs itself as a program that asks for one descriptor alone. */
+static void run_with_flags(void)
+{
+    if (open("a", O_RDWR | O_CREAT | O_CLOEXEC, 0600) == 5)
+        execl(own_path, own_path, "asks", (char *)NULL);
+}
+
+static void ask_flags(void) { printf("%d\n", fcntl(5, F_GETFD)); }
+
 int main(int count, char **words)
 {
     static const struct {
@@ -326,13 +335,14 @@ int main(int count, char **words)
         {"end-lost", seek_astray},
         {"errno-zeroed", tell_errors},  {"errno-set", tell_errors},
         {"errno-kept", tell_errors},
+        {"cloexec-exec", run_with_flags}, {"asks", ask_flags},
         {"access-refused", ask},        {"read-beyond", take_few},
         {"cloexec-thread", keep_flags_after_thread},
         {"restart-lost", restart},      {"never-beside", read_beside},
         {"read-crashes", take_few},     {"end-hangs", read_to_end},
     };
     own_path = words[0];
-    if (count != 2 || pipe(ends) != 0)
+    if (count != 2 || (strcmp(words[1], "asks") != 0 && pipe(ends) != 0))
         return 1;
     for (size_t at = 0; at < sizeof ways / sizeof *ways; at++)
         if (strcmp(words[1], ways[at].name) == 0)

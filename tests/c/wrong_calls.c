@@ -4,6 +4,7 @@
    cloexec-lost    F_GETFD gives 0
    cloexec-copied  dup keeps FD_CLOEXEC
    cloexec-unset   O_CLOEXEC is ignored
+   cloexec-exec    the same
    write-cut       a write ends after 65,536 bytes
    dupfd-high      F_DUPFD gives a number above the lowest that is free
    dupfd-refused   F_DUPFD is EINVAL
@@ -271,7 +272,8 @@ int dup(int fd)
 
 int open(const char *name, int flags, ...)
 {
-    return (int)syscall(SYS_openat, AT_FDCWD, name, is_wrong("cloexec-unset") ? flags & ~O_CLOEXEC : flags, 0600);
+    int is_unset = is_wrong("cloexec-unset") || is_wrong("cloexec-exec");
+    return (int)syscall(SYS_openat, AT_FDCWD, name, is_unset ? flags & ~O_CLOEXEC : flags, 0600);
 }
 
 int stat(const char *name, struct stat *to)

@@ -1212,6 +1212,11 @@ MADE_0 = MADE.replace("3", "0")
 MAKES = "socket, whose descriptor has a low number natively"
 OF_HANDLER = causes.HANDLED.format("signal 10 (SIGUSR1)")
 
+IS_READ = "stdio on descriptor 0"
+ABCD = "p0 open a rw,creat = 0; p0 write 0 x61626364 = 4; p0 lseek 0 0 set = 0; p0 dup 0 = 1; p0 dup2 1 0 = 0; "
+READ_ON, AN_OFFSET, A_PLACE = (f"{ABCD}p0 {it} = {{}}" for it in ("read 1 2", "lseek 1 0 cur", "pread 1 1 0"))
+WRITTEN_ON = f"{ABCD}p0 write 1 x78 = 1; p0 pread 1 1 0 = {{}}"
+
 CAUSES = [
     Causes("the same path", "! 1 p0 path truncate\td/a; ! 1 p0 path unlink\td/b", "truncate of d/a"),
     Causes("another path", "! 1 p0 path truncate\td/b; - 1 p0 stream fopen\t/tmp/x", ""),
@@ -1223,6 +1228,18 @@ CAUSES = [
     Causes("what only asks, or lists", "! 1 p0 call poll\t0; - 1 p0 path opendir\t/", ""),
     Causes("stdio on the same file", "- 2 p0 stdio 1; ! 2 p0 call posix_fadvise\t0", "stdio on descriptor 1"),
     Causes("stdio on another file", "- 3 p0 stdio 2", ""),
+    Causes("stdio that has read a file, and its size", "- 2 p0 stdio 0", ""),
+    *[
+        Causes(f"stdio that has read a file, and {given} of it", "- 5 p0 stdio 0", told, READ_ON, (given, "x6162"))
+        for given, told in (("x6263", IS_READ), ("x", IS_READ), ("x6364", IS_READ), ("x6361", ""), ("error EIO", ""))
+    ],
+    Causes("stdio that has read a file, and its offset", "- 5 p0 stdio 0", IS_READ, AN_OFFSET, ("3", "0")),
+    Causes("stdio that has read a file, and an offset before", "- 5 p0 stdio 0", "", AN_OFFSET, ("0", "3")),
+    Causes("stdio that has read a file, and a place of it", "- 5 p0 stdio 0", "", A_PLACE, ("x63", "x61")),
+    Causes("stdio that has read a file before a write", "- 5 p0 stdio 0", IS_READ, WRITTEN_ON, ("x63", "x61")),
+    Causes("a file at descriptor 0 that stdio does not read", "- 5 p0 idle 0", "", READ_ON, ("x6263", "x6162")),
+    Causes("stdio that has read a pipe", "- 2 p0 stdio 0", IS_READ, A_READ, ("x", "x6869")),
+    Causes("stdio that has read a pipe, and an error", "- 2 p0 stdio 0", "", A_READ, ("error EIO", "x6869")),
     Causes("a program", "! 1 p0 program system\tb; ! 1 p0 path stat\td/a", "system of b"),
     Causes("the other end of a pipe", "! 1 p0 call vmsplice\t1", "vmsplice on descriptor 1", A_READ, HELLO),
     Causes("an end of another pipe", "! 2 p0 call vmsplice\t1", "", TWO_PIPES, HELLO),

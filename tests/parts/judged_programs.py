@@ -725,6 +725,7 @@ WRONGED = {
     "cloexec-lost": "7 answers about FD_CLOEXEC differ from what was set: system: p0 fcntl F_GETFD 3 = 0",
     "cloexec-copied": "1 answer about FD_CLOEXEC differs from what was set: system: p0 fcntl F_GETFD 5 = 1",
     "cloexec-unset": "1 answer about FD_CLOEXEC differs from what was set: system: p0 fcntl F_GETFD 6 = 0",
+    "cloexec-exec": "1 answer about FD_CLOEXEC differs from what was set: system: p0 execl 5 = kept",
     "write-cut": "system: p0 write 5 00*65536 = 0",
     "dupfd-high": "system: p0 dup2 3 8 = 9",
     "dupfd-refused": "system: p0 dup2 3 8 = error EINVAL",
