@@ -16,7 +16,7 @@ from collections.abc import Callable, Iterator, Mapping, Sequence
 from typing import NamedTuple
 
 from support import plain_model
-from support.auditing import act_of
+from support.auditing import Judge, act_of
 from support.call_logs import Log, Way, call_of, is_wait, word_of
 from support.histories import UNKNOWN, Noted
 from support.ordering import ROOMY
@@ -27,6 +27,7 @@ from support.searching import Search, Step, TooLong
 from support.texts import several
 
 from partings import OF_TIME, Compared, Finding, Parting, is_by_signal, size_of
+from reach import names_in
 from thread_order import ThreadSearch
 
 # A search is given up after so many states, or after fewer, where these have many bytes; and after so long.
@@ -36,6 +37,11 @@ SECONDS = 20
 PAGE = 4_096
 # What the first thread of a process has in the place of the place.
 FIRST_THREAD = "-"
+# The calls that have to do with the descriptors of a process alone, and those that have with one file, too; and how many
+# names the others have.
+OF_DESCRIPTORS = ("close", "dup", "dup2", "pipe")
+OF_ONE_FILE = ("open", "read", "write", "pread", "pwrite", "lseek", "ftruncate", "fstat", "getfl")
+NAMES = {"open": 1, "mkfifo": 1, "unlink": 1, "link": 2, "rename": 2}
 # The name of a reason that larger pipes take away.
 ROOM = "room of a pipe"
 
@@ -464,11 +470,13 @@ def none_in(builder: Builder) -> Ordered:
 
 def is_in_none(compared: Compared, finding: Finding) -> bool:
     """Whether no order gives an answer of the system, whoever was killed or had less room: as it came before there was
-    another process, or is a part of a write that came back without a cause. Nothing else may be why of it."""
+    another process, is a part of a write that came back without a cause, or is of a file that one process alone has.
+    Nothing else may be why of it."""
     parting = finding.parting
     if not parting.is_same_call() or not parting.system:
         return False
-    return is_alone(compared, parting.way, parting.system) or is_cut_for_nothing(compared, parting)
+    is_first = is_alone(compared, parting.way, parting.system)
+    return is_first or is_cut_for_nothing(compared, parting) or is_private(compared, finding)
 
 
 def is_alone(compared: Compared, way: Way, line: Line) -> bool:
@@ -477,6 +485,43 @@ def is_alone(compared: Compared, way: Way, line: Line) -> bool:
     before = calls[: 1 + next(at for at, it in enumerate(calls) if it is line)]
     is_first = way == min(compared.system.calls) and not compared.started.calls
     return is_first and not Builder(compared).has_threads() and not any(map(is_fork, before))
+
+
+def is_private(compared: Compared, finding: Finding) -> bool:
+    """Whether an answer has to do with the descriptors of its process alone, or with a file or pipe of which no other
+    process has ever had a descriptor, and whose names no other one has in a call in any of the two runs. Each process
+    has one thread, and none starts another program, or looks at a name, of which there is no line."""
+    line, number = finding.parting.fdref, finding.parting.number
+    if not line or Builder(compared).has_threads() or compared.started.calls or compared.looks():
+        return False
+    act = read_act(line.act)
+    if act.word not in OF_ONE_FILE:
+        return act.word in OF_DESCRIPTORS
+    judge, called, held = Judge(compared.limits), dict[object, set[str]](), set[object]()
+    for record in compared.records[: finding.parting.place]:
+        judge.outcome_of(act_of(record.act))
+        if word_of(record) in ("open", "pipe", "attach", "link", "rename", "resume"):
+            for name, named in judge.world.names.items():
+                called.setdefault(named, set()).add(name.decode("ascii", "replace"))
+            others = (it for it in judge.world.processes.values() if it.number != number)
+            held |= {thing for it in others for at in it.table.values() for thing in (at.file, at.pipe)}
+    process = judge.world.processes.get(number)
+    at = process.table.get(act.fields[0]) if process and act.word != "open" else None
+    files = {at.file, at.pipe or at.file} if at else {judge.world.names.get(name) for name in names_in(act)} - {None}
+    names = set(finding.names).union(*(called.get(file, ()) for file in files))
+    return not files & held and names <= named_alone(compared, finding.parting.way) and bool(names or at)
+
+
+def named_alone(compared: Compared, way: Way) -> set[str]:
+    """The names in calls of one process that are in none of another one, in any of the two runs."""
+    own: set[str] = set()
+    others: set[str] = set()
+    for log in (compared.system, compared.fdref):
+        for who, calls in log.calls.items():
+            for line in calls:
+                word, *fields = call_of(line).split(" ")
+                (own if who == way else others).update(fields[: NAMES.get(word, 0)])
+    return own - others
 
 
 def is_cut_for_nothing(compared: Compared, parting: Parting) -> bool:

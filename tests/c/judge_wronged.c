@@ -30,6 +30,15 @@ static void meet_dry_end(void)
     read(ends[0], bytes, 1);
 }
 
+/* The same of one at descriptor 0, which stdio does not read. */
+static void meet_dry_input(void)
+{
+    dup2(ends[0], 0);
+    close(ends[0]);
+    ends[0] = 0;
+    meet_dry_end();
+}
+
 static void keep_flags(void)
 {
     int copies[6];
@@ -226,6 +235,20 @@ static void read_to_end(void)
     read(ends[0], bytes, 1);
 }
 
+/* A child reads a file of its own, while its parent reads to the end. */
+static void read_own(void)
+{
+    if (fork() == 0) {
+        int fd = open("c", O_RDWR | O_CREAT, 0600);
+        write(fd, "x", 1);
+        lseek(fd, 0, SEEK_SET);
+        read(fd, bytes, 1);
+        _exit(0);
+    }
+    close(ends[1]);
+    read(ends[0], bytes, 1);
+}
+
 /* Handlers run between calls, and none in a read. */
 #pragma GCC diagnostic ignored "-Wdeprecated-declarations"
 static void hear_signals(void)
@@ -318,7 +341,8 @@ int main(int count, char **words)
         const char *name;
         void (*does)(void);
     } ways[] = {
-        {"dry-end", meet_dry_end},       {"cloexec-lost", keep_flags},
+        {"dry-end", meet_dry_end},      {"cloexec-lost", keep_flags},
+        {"input-dry", meet_dry_input},
         {"cloexec-copied", keep_flags}, {"cloexec-unset", keep_flags},
         {"write-cut", write_much},      {"dupfd-high", copy},
         {"dupfd-refused", copy},        {"close-kept", end},
@@ -340,6 +364,7 @@ int main(int count, char **words)
         {"cloexec-thread", keep_flags_after_thread},
         {"restart-lost", restart},      {"never-beside", read_beside},
         {"read-crashes", take_few},     {"end-hangs", read_to_end},
+        {"own-beside", read_own},
     };
     own_path = words[0];
     if (count != 2 || (strcmp(words[1], "asks") != 0 && pipe(ends) != 0))

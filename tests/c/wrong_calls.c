@@ -1,6 +1,7 @@
 /* A part of a C library that is wrong in one way, which the variable WRONG of the environment names:
 
    dry-end         a read at the end of a pipe is EAGAIN
+   input-dry       the same
    cloexec-lost    F_GETFD gives 0
    cloexec-copied  dup keeps FD_CLOEXEC
    cloexec-unset   O_CLOEXEC is ignored
@@ -32,6 +33,7 @@
    restart-lost    sigaction sets no SA_RESTART
    never-beside    a read never comes back
    end-hangs       a read of a pipe never comes back at its end
+   own-beside      the same, and one of a file gives another byte
    read-crashes    a read ends the process by SIGSEGV
    whence-taken    lseek takes any whence for SEEK_SET
    whence-piped    lseek in a pipe gives 0 for a whence that there is not
@@ -75,9 +77,12 @@ ssize_t read(int fd, void *to, size_t count)
         errno = EINTR;
     if (done > 0 && is_wrong("read-beyond"))
         ((char *)to)[count] ^= 1;
-    while (done == 0 && count > 0 && is_wrong("end-hangs"))
+    while (done == 0 && count > 0 && (is_wrong("end-hangs") || is_wrong("own-beside")))
         pause();
-    if (done != 0 || count == 0 || syscall(SYS_lseek, fd, 0L, SEEK_CUR) >= 0 || !is_wrong("dry-end"))
+    if (done > 0 && is_wrong("own-beside"))
+        ((char *)to)[0] ^= 1;
+    int is_dry = is_wrong("dry-end") || is_wrong("input-dry");
+    if (done != 0 || count == 0 || syscall(SYS_lseek, fd, 0L, SEEK_CUR) >= 0 || !is_dry)
         return done;
     errno = EAGAIN;
     return -1;

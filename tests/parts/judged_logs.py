@@ -695,6 +695,14 @@ NOT_PRINTED = (
     f"{NOT_DECIDED}"
 )
 
+OWN = "p0 pipe = 0 1; p0 fork = 1; p1 open a rw,creat = 2; p1 write 2 x6162 = 2; "
+OWN_HERE = "0 p0 join = 0; 1 p0 pipe = 0 1; 2 p0 fork = 1; 3 p1 attach = ok; 4 p1 open a rw,creat = 2; "
+OWN_HERE += "5 p1 write 2 x6162 = 2; 6 "
+ITS = OWN.replace("p1 write", "p0 unlink b = error ENOENT; p0 link a b = ok; p0 unlink b = ok; p1 write")
+ITS_HERE = OWN_HERE.replace("5 p1", "5 p0 unlink b = error ENOENT; 6 p0 link a b = ok; 7 p0 unlink b = ok; 8 p1").replace(
+    "= 2; 6 ", "= 2; 9 "
+)
+
 ORDERS = [
     Orders(
         "two processes and a name that one of them makes",
@@ -884,6 +892,24 @@ ORDERS = [
         1,
         cuts="- 70 p0 signal 9",
     ),
+    *[
+        Orders(
+            f"a wrong answer after a fork, where another process was killed: {name}",
+            f"{before}{call} = {given}",
+            f"{before_here}{call} = {wanted}",
+            NO_ORDER if status == 1 else OPEN_ORDER,
+            f"a difference: {NO_ORDER}" if status == 1 else f"not judged: 1 answer differs without a reason; {NOT_DECIDED}",
+            status,
+            cuts="- 70 p0 signal 9",
+        )
+        for name, before, before_here, call, given, wanted, status in (
+            ("of its own file", OWN, OWN_HERE, "p1 pread 2 9 0", "x6163", "x6162", 1),
+            ("of its own descriptors", OWN, OWN_HERE, "p1 dup 2", "4", "3", 1),
+            ("of a name of its own", OWN, OWN_HERE, "p1 open c r", "3", "error ENOENT", 1),
+            ("of a name that another one has", ITS, ITS_HERE, "p1 pread 2 9 0", "x6163", "x6162", 3),
+            ("of a pipe that another one has", OWN, OWN_HERE, "p1 write 1 x6162", "error EPIPE", "2", 3),
+        )
+    ],
     *[
         Orders(
             f"stdio on what may be a pipe, of which the reader gets {given}",

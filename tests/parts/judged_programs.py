@@ -722,6 +722,7 @@ OF_SYSTEM = f"{DIFFERS}system: "
 # What a wrong C library answers to a program, by what it is wrong about.
 WRONGED = {
     "dry-end": "system: p0 read 3 1 = error EAGAIN",
+    "input-dry": "system: p0 read 0 1 = error EAGAIN",
     "cloexec-lost": "7 answers about FD_CLOEXEC differ from what was set: system: p0 fcntl F_GETFD 3 = 0",
     "cloexec-copied": "1 answer about FD_CLOEXEC differs from what was set: system: p0 fcntl F_GETFD 5 = 1",
     "cloexec-unset": "1 answer about FD_CLOEXEC differs from what was set: system: p0 fcntl F_GETFD 6 = 0",
@@ -752,6 +753,7 @@ WRONGED = {
     "restart-lost": f"{OF_SYSTEM}p0 sigaction: has set SA_RESTART otherwise than it was asked for",
     "never-beside": f"{DIFFERS}p0 read 3 1 has not come back on the system, which was killed in it",
     "end-hangs": f"{DIFFERS}p0 read 3 1 has not come back on the system, which was killed in it",
+    "own-beside": "system: p1 read 5 1 = x79",
     "read-crashes": f"{DIFFERS}p0 read 3 2 has not come back on the system, where signal 11 (SIGSEGV) ended it",
     "cloexec-thread": "1 answer about FD_CLOEXEC differs from what was set: system: p0 fcntl F_GETFD 3 = 0",
     # a whence that there is not is told as an offset below 0
