@@ -68,7 +68,7 @@ BY_DESCRIPTOR = re.compile(
 NOTHING, ITS_OWN, ALL = "nothing", "its own", "all"
 
 # What calls may differ by that no call tells.
-MODES = "modes, owners and times, which are fdref's own"
+MODES = "modes, owners, times and st_ino, which are fdref's own"
 NUMBERS = "the number of a process, an address, the time or a random number"
 TIMERS = "a timer, since calls take longer with fdref"
 HANDLED = "a handler of {}, which comes at another time with fdref,"

@@ -62,14 +62,15 @@ The last line says what the exit status means:
 0  both ended by themselves, with the same status, standard output and standard error, each answer is the
    same, or comes by another order of the same calls, and the audit finds the trace legal, whatever went past
    fdref
-1  the answer to the same call differs, or that of F_GETFD, or an exec, from how FD_CLOEXEC was set, and none of these may be
-   why: a reason, an order that was not decided on, what is told to go past fdref before it (tools/causes.py has
-   what is known to be harmless), a thread that waits and holds its process, a child that a signal ended, a
-   descriptor that no call of fdref made, and a right. Or no order gives the answers; or the audit finds a fault. Or
-   a call of the system does what it may not beside its answer: it sets errno to 0, or fails without setting it,
-   blocks other signals, SIGPIPE comes otherwise than once with EPIPE, SA_RESTART is set otherwise, it goes on after a
-   signal that ends it (as x86-64 alone tells), a wait tells otherwise of a child than the kernel, an exec gives a
-   program other words, a read changes what is beyond its buffer; or it has not come back to the end
+1  the answer to the same call differs, or that of F_GETFD, or an exec, from how FD_CLOEXEC was set, and none of
+   these may be why: a reason, an order that was not decided on, what is told to go past fdref before it
+   (tools/causes.py has what is known to be harmless), a thread that waits and holds its process, a child that a
+   signal ended, a descriptor that no call of fdref made, and a right. Or no order gives the answers; or the audit
+   finds a fault. Or a call of the system does what it may not beside its answer: it sets errno to 0, or fails
+   without setting it, tells one pipe as two files, opens a FIFO before the other end is opened, blocks other
+   signals, SIGPIPE comes otherwise than once with EPIPE, SA_RESTART is set otherwise, it goes on after a signal that
+   ends it (as x86-64 alone tells), a wait tells otherwise of a child than the kernel, an exec gives a program other
+   words, a read changes what is beyond its buffer; or it has not come back to the end
 2  wrong words
 3  not judged: answers differ that have a reason; or one of these may be why; or a process makes another call, so
    that its program went another way, as by the time, a timer, the number of a process, an address or a mode; or
@@ -668,7 +669,17 @@ class Verdict:
         ended |= {way for number, way in ways.items() if number in broken}
         is_missing = any(map(self.has_gone_on, ended))
         said += ["no signal 13 (SIGPIPE) has come on the system with EPIPE"] * is_missing
-        return said + past.told_wrong(self.native)
+        return said + self.told_early() + past.told_wrong(self.native)
+
+    def told_early(self) -> list[str]:
+        """What is said of opens of a FIFO that came back before another one opened its other end. All processes have
+        ended by themselves, and did nothing else that has no line."""
+        status = self.both.system.status
+        is_whole = status is not None and status >= 0 and not past.signals(self.native) and not past.cuts(self.native)
+        if not is_whole or past.doubt(self.past) or self.compared.started.calls:
+            return []
+        told = "system: {}: has come back before another one began to open the other end"
+        return [told.format(line.act) for line in some_order.early_opens(self.compared)]
 
     def has_gone_on(self, way: Way) -> bool:
         """Whether a process that ended with fdref at an EPIPE got that on the system by the same calls, and went on, or

@@ -223,7 +223,7 @@ def has_looked(every: list[Past], records: list[Line]) -> bool:
 
 def told_looks(every: list[Past], records: list[Line]) -> list[str]:
     """That what is written may tell of modes or times, where the program asked for them."""
-    told = "may follow from a stat, fstat, access or chmod: modes, owners, times and blocks are fdref's own"
+    told = "may follow from a stat, fstat, access or chmod: modes, owners, times, blocks and st_ino are fdref's own"
     return [told] if has_looked(every, records) else []
 
 

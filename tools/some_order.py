@@ -26,6 +26,7 @@ from support.runs import Line
 from support.searching import Search, Step, TooLong
 from support.texts import several
 
+from handlers import begun_at
 from partings import OF_TIME, Compared, Finding, Parting, is_by_signal, size_of
 from reach import names_in
 from thread_order import ThreadSearch
@@ -553,6 +554,32 @@ def is_read_later(compared: Compared, line: Line) -> bool:
     own = {pipe for pipe, it in uses if it is line}
     later = (it for pipe, it in uses if pipe in own and places[id(it)] > places[id(line)])
     return any(given_by(it) is not None for it in later)
+
+
+# The ways to open a FIFO by which each way comes back that waits.
+OTHER_ENDS = {"r": ("w", "rw"), "w": ("r", "rw")}
+
+
+def early_opens(compared: Compared) -> list[Line]:
+    """The native opens of a FIFO that wait for an open of its other end, and had come back before any began. The FIFO
+    has one name, and what opens it has a line."""
+    lines = compared.system_lines
+    moved = {name for line in lines if word_of(line) in ("link", "rename") for name in call_of(line).split(" ")[1:]}
+    made = [call_of(line).split(" ")[1] for line in lines if word_of(line) == "mkfifo" and line.outcome == "ok"]
+    opens: dict[str, list[Line]] = {name: [] for name in made if made.count(name) == 1 and name not in moved}
+    for line in lines:
+        if word_of(line) == "open" and call_of(line).split(" ")[1] in opens:
+            opens[call_of(line).split(" ")[1]].append(line)
+    return [line for ends in opens.values() for line in ends if is_early(compared, line, ends)]
+
+
+def is_early(compared: Compared, line: Line, ends: Sequence[Line]) -> bool:
+    """Whether an open of a FIFO is one of these, where all opens of it are known."""
+    mode, *flags = line.act.split(" ")[-1].split(",")
+    if mode not in OTHER_ENDS or "nonblock" in flags or not line.outcome.isdigit():
+        return False
+    others = [it for it in ends if it.act.split(" ")[-1].split(",")[0] in OTHER_ENDS[mode]]
+    return all(begun_at(it) > compared.handlers.places[id(line)] for it in others)
 
 
 def none_for(compared: Compared) -> Ordered:

@@ -63,6 +63,34 @@ static void note_look(int done, mode_t mode, uint64_t size, uint64_t links)
     errno = error;
 }
 
+/* What a native fstat has told of each pipe that is open: which file it is. */
+static struct told_file {
+    unsigned stamp;
+    uint64_t device, number;
+} told_files[NUMBERS];
+
+static int is_told_pipe(int fd)
+{
+    return slots[fd].held == OURS && slots[fd].is_pipe && stamps[fd] > 0 && told_files[fd].stamp == stamps[fd];
+}
+
+/* Notes natively that two ends of one pipe are told to be two files, or those of two pipes to be one. */
+static void check_file(const char *name, int fd, uint64_t device, uint64_t number)
+{
+    struct told_file now = {0, device, number};
+    if (!is_watching() || !is_alone() || is_doubtful || slot_of(fd).held != OURS || !slot_of(fd).is_pipe)
+        return;
+    now.stamp = stamps[fd];
+    for (int at = 0; at < NUMBERS; at++) {
+        int is_same = is_told_pipe(at) && told_files[at].device == device && told_files[at].number == number;
+        if (is_told_pipe(at) && slots[at].inode == slots[fd].inode && !is_same)
+            note_wrong(name, "tells two files where there is one pipe");
+        else if (is_same && slots[at].inode != slots[fd].inode)
+            note_wrong(name, "tells one file where there are two pipes");
+    }
+    told_files[fd] = now;
+}
+
 #define LOOKS(function, parameters, words, folder, flags) \
     int function parameters \
     { \
@@ -102,6 +130,8 @@ static void note_look(int done, mode_t mode, uint64_t size, uint64_t links)
             return done; \
         } \
         done = (int)BEHIND(next words); \
+        if (done == 0) \
+            check_file(#function, fd, to->st_dev, to->st_ino); \
         let_in(seen(fd, done, done < 0 ? 0 : to->st_mode, done < 0 ? 0 : (uint64_t)to->st_size, \
                     done < 0 ? 0 : (uint32_t)to->st_nlink)); \
         return done; \

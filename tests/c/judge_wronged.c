@@ -168,6 +168,36 @@ static void take_few(void)
     read(ends[0], bytes, 2);
 }
 
+/* Asks which file each end of two pipes is, and of a copy; the file of a pipe that is closed may come again. */
+static void ask_files(void)
+{
+    struct stat told[5];
+    int more[2];
+    if (pipe(more) != 0 || dup2(ends[0], 9) != 9)
+        return;
+    fstat(ends[0], told);
+    fstat(ends[1], told + 1);
+    fstat(more[0], told + 2);
+    fstat(9, told + 3);
+    close(more[0]);
+    close(more[1]);
+    if (pipe(more) == 0)
+        fstat(more[1], told + 4);
+}
+
+/* Opens a FIFO that a child opens after a while. */
+static void open_fifo(void)
+{
+    mkfifo("f", 0600);
+    if (fork() == 0) {
+        usleep(300000);
+        read(open("f", O_RDONLY), bytes, 1);
+        _exit(0);
+    }
+    write(open("f", O_WRONLY), "x", 1);
+    wait(NULL);
+}
+
 static void *write_one(void *data)
 {
     write(ends[1], "x", 1);
@@ -360,6 +390,8 @@ int main(int count, char **words)
         {"errno-zeroed", tell_errors},  {"errno-set", tell_errors},
         {"errno-kept", tell_errors},
         {"cloexec-exec", run_with_flags}, {"asks", ask_flags},
+        {"ino-apart", ask_files},       {"ino-same", ask_files},
+        {"fifo-early", open_fifo},
         {"access-refused", ask},        {"read-beyond", take_few},
         {"cloexec-thread", keep_flags_after_thread},
         {"restart-lost", restart},      {"never-beside", read_beside},

@@ -30,6 +30,9 @@
    access-refused  access is ENOENT
    read-beyond     a read changes a byte beyond its buffer
    cloexec-thread  F_GETFD gives 0
+   ino-apart       fstat tells another st_ino of each descriptor
+   ino-same        fstat tells the same st_ino of all
+   fifo-early      an open of a FIFO to write waits for nobody
    restart-lost    sigaction sets no SA_RESTART
    never-beside    a read never comes back
    end-hangs       a read of a pipe never comes back at its end
@@ -277,8 +280,22 @@ int dup(int fd)
 
 int open(const char *name, int flags, ...)
 {
+    struct stat told;
     int is_unset = is_wrong("cloexec-unset") || is_wrong("cloexec-exec");
+    if (flags == O_WRONLY && is_wrong("fifo-early") && stat(name, &told) == 0 && S_ISFIFO(told.st_mode))
+        flags = O_RDWR;
     return (int)syscall(SYS_openat, AT_FDCWD, name, is_unset ? flags & ~O_CLOEXEC : flags, 0600);
+}
+
+int fstat(int fd, struct stat *to)
+{
+    int (*next)(int, struct stat *), done;
+    void *found = dlsym(RTLD_NEXT, "fstat");
+    memcpy(&next, &found, sizeof next);
+    done = next(fd, to);
+    if (done == 0 && (is_wrong("ino-apart") || is_wrong("ino-same")))
+        to->st_ino = is_wrong("ino-same") ? 1 : to->st_ino + (ino_t)fd;
+    return done;
 }
 
 int stat(const char *name, struct stat *to)
