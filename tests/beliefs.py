@@ -36,8 +36,8 @@ UNCOUNTED = re.compile(r"\s*(--|(pub )?use |$)")
 
 # The crates whose implementations touch the system or are asked by many threads, the traits of others that say nothing
 # of that, and what the implementations say.
-OUTER_CRATES = {"fdref", "system_lock", "trace_writer"}
-OTHER_TRAITS = {"Model", "From", "Takes"}
+OUTER_CRATES = {"fdref", "session_core", "system_lock", "trace_writer"}
+OTHER_TRAITS = {"Model", "From", "Promise", "Takes"}
 SAID = """
 fdref Listener.accepted: λ listener. listener.accepted
 fdref Listener.coming: λ _. None
@@ -51,6 +51,14 @@ fdref TraceFile.contents: λ s. s.file.contents
 fdref TraceFile.failures: λ s. s.failures
 fdref TraceFile.is_sound: λ s. true
 fdref TraceFile.is_synced: λ s. s.is_synced
+session_core Brand.base: None
+session_core Brand.ring: None
+session_core Helper.rings: λ h. h.rings
+session_core MemoryReader.remaining: λ r. Some r.rest
+session_core MemoryWriter.contents: λ w. Some w.bytes
+session_core MemoryWriter.was_shut: λ _. Unit {0}
+session_core SystemThreads.failures: λ s. s
+session_core UnixStream.was_shut: λ _. Unit {0}
 system_lock Front.as_front: λ f. f
 system_lock InRun.as_seat: λ s. s
 system_lock OneBook.marks: λ _ _. ⊤
