@@ -18,7 +18,7 @@ use Rattle.script_text.specs.ReadingResults.{IsReadAs as IsLineOf, ScriptFails, 
 use Rattle.script_text.specs.declared.fault.ScriptFault.{ScriptFault}
 use Rattle.record_book.specs.Book.{new_book}
 use Rattle.byte_ledger.specs.declared.tallies.Sums.{Sums}
-use Rattle.script_run.specs.RunState.{RunState}
+use Rattle.record_book.specs.RunState.{RunState}
 use Rattle.script_run.specs.Fits.{FitsRun, IsCounted, RunsFrom}
 use Rattle.script_run.specs.ToldOf.{IsRecordOf, IsToldOf}
 use Rattle.script_run.specs.declared.told.ScriptAnswer.{ScriptAnswer}
@@ -100,7 +100,8 @@ run_ends read first run before lines output sums so_far is_before counted is = r
   outputs = λ b seats fits.
       let all = so_far.runs b seats fits in
       let counts = counted all.book all.seats_are all.fits in
-      let same : all.book.limits ≡ b.limits = all.fits.leads.limits ∙ (so_far.limits_are ∙ sym fits.leads.limits) in
+      let limits : RunState → Limits = λ s. s.limits in
+      let same : all.book.limits ≡ b.limits = ap limits (sym all.fits.leads.run) ∙ (so_far.limits_are ∙ ap limits fits.leads.run) in
       let last : totals_line sums.records sums.bytes_in sums.bytes_out ≡ last_line all.book = rw (counts.records, counts.bytes_in, counts.bytes_out) refl in
       let told : lines ≡ told_lines so_far.told = so_far.lines_are ∙ ap (λ l. l ++ told_lines so_far.told) is_before in
       record {

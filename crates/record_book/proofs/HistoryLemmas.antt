@@ -1,12 +1,14 @@
 -- Histories with one more record.
-use Rattle.std.proofs.Common.{◌≡◌, ℕ, ◌+◌, List, [], ◌∷◌, ◌++◌, Some, refl, arith}
+use Rattle.std.proofs.Common.{◌≡◌, ℕ, ◌+◌, List, [], ◌∷◌, ◌++◌, Some, refl, arith, length-append}
 use Rattle.std.specs.Option.{option_map}
 use Rattle.call_types.specs.declared.limits.Bounds.{Bounds}
 use Rattle.call_types.specs.declared.act.Record.{Record}
+use Rattle.call_types.specs.declared.limits.Limits.{Limits}
 use Rattle.posix_model.specs.Step.{step}
 use Rattle.posix_model.specs.History.{empty_world, after, world_from, world_of, legal_from}
 use Rattle.posix_model.specs.Turns.{took, gave, sum_from, bytes_in, bytes_out}
 use Rattle.posix_model.specs.declared.world.World.{World}
+use Rattle.record_book.specs.RunState.{grown, run_at}
 
 pub world_from-push : (bounds : Bounds) (w : World) (h : List Record) (r : Record) → world_from bounds w (h ++ r ∷ []) ≡ after bounds (world_from bounds w h) r
 world_from-push bounds w [] r = refl
@@ -29,3 +31,9 @@ bytes_in-push bounds h r = sum_from-push took bounds empty_world h r
 
 pub bytes_out-push : (bounds : Bounds) (h : List Record) (r : Record) → bytes_out bounds (h ++ r ∷ []) ≡ bytes_out bounds h + gave (world_of bounds h) r
 bytes_out-push bounds h r = sum_from-push gave bounds empty_world h r
+
+-- where a history leads goes on by one record
+pub run_push : (limits : Limits) (h : List Record) (r : Record) → run_at limits (h ++ r ∷ []) ≡ grown (run_at limits h) r
+run_push limits h r =
+    let bounds = limits.bounds in
+    rw (length-append h (r ∷ []), world_from-push bounds empty_world h r, bytes_in-push bounds h r, bytes_out-push bounds h r) refl

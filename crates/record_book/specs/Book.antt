@@ -4,10 +4,11 @@ use Rattle.call_types.specs.declared.limits.Limits.{Limits}
 use Rattle.call_types.specs.declared.act.Act.{Act}
 use Rattle.call_types.specs.declared.act.Record.{Record}
 use Rattle.posix_model.specs.Step.{outcome_of}
-use Rattle.posix_model.specs.History.{after_act, world_of}
+use Rattle.posix_model.specs.History.{world_of}
 use Rattle.posix_model.specs.Turns.{took, gave}
 use Rattle.posix_model.specs.declared.world.World.{World}
 use Rattle.byte_ledger.specs.Counted.{counted_more}
+use Rattle.record_book.specs.RunState.{RunState, run_at}
 use Rattle.record_book.specs.Seat.{Receipted, SeatState}
 
 -- the limits of a run, its records so far, the receipts of the house, which it holds until the run is closed, and whether the
@@ -22,13 +23,13 @@ pub record BookState : Type 0 where
 abbrev pub new_book : Limits → BookState
 new_book limits = record { limits = limits; history = []; house = Some []; is_traced = false }
 
+-- how far its records lead
+abbrev pub run_of : BookState → RunState
+run_of b = run_at b.limits b.history
+
 -- the world after the records so far
 abbrev pub world_now : BookState → World
 world_now b = world_of b.limits.bounds b.history
-
--- the world after one more act
-abbrev pub world_after : BookState → ℕ → Act → World
-world_after b actor act = after_act b.limits.bounds (world_now b) actor act
 
 -- one record of this act is appended, with the model's outcome, and its receipt tells its place
 pub record Appends (old new : BookState) (actor : ℕ) (act : Act) (receipt : Receipted) : Type 0 where

@@ -11,4 +11,4 @@ records_in b = b.history.sent
 
 -- what contracts see of a journal, and of the book that holds it
 abbrev pub state_of : Inside → BookState
-state_of b = record { limits = b.limits; history = records_in b; house = receipts_of b.house; is_traced = b.history.is_taken }
+state_of b = record { limits = b.progress.limits; history = records_in b; house = receipts_of b.house; is_traced = b.history.is_taken }

@@ -1,4 +1,6 @@
 pub mod Seat
+pub mod RunState
+pub mod RunSeen
 pub mod Book
 pub mod Exits
 pub mod Counting

@@ -3,10 +3,11 @@
 ghost use Rattle.std.specs.Prelude.{◌≡◌, [], false, true, IfOk, IfSome, IfNone};
 ghost use Rattle.rtrb.specs.Ring.{received};
 ghost use Rattle.posix_model.specs.Kept.{IsSettled, KeptExactly};
-ghost use Rattle.record_book.specs.Book.{new_book, world_now};
+ghost use Rattle.record_book.specs.Book.{new_book, run_of, world_now};
 ghost use Rattle.record_book.specs.Counting.{CountsOf};
 
 use crate::journal::Journal;
+use crate::progress::Progress;
 use byte_ledger::ledgers::{Blanks, Ledgers};
 use byte_ledger::tallies::{Shares, Sums, Tallies};
 use call_types::limits::Limits;
@@ -58,12 +59,20 @@ impl<L: Ledgers> Book<L> {
         })
     }
 
+    /// How far the run has come.
+    #[inline(always)]
+    pub(crate) fn progress(&self) -> &Progress
+        ensures { result.now ≡ run_of self.now }
+    {
+        &self.journal.progress
+    }
+
     /// The state to which the records led. It counts references, names, holders and ends as it goes, and each count
     /// equals the one that the model takes afresh.
     pub fn machine(&self) -> &Machine
         ensures { result.now.world ≡ world_now self.now }
     {
-        &self.journal.machine
+        &self.journal.progress.machine
     }
 
     /// How many records the book holds, and how many bytes they took and gave. The records are a run of the model. In this run each

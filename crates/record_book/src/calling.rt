@@ -39,12 +39,12 @@ impl<L: Ledgers> Book<L> {
     {
         let actor = seat.pid();
         // A match, since `?` would move what was decided once more.
-        let decided = match self.journal.call_comes_to(alloc, actor, &call) {
+        let decided = match self.progress().call_comes_to(alloc, actor, &call) {
             Ok(decided) => decided,
             Err(error) => return Err(error),
         };
         let act = Act::Call(call);
-        self.journal.is_planned(actor, &act, &decided);
+        self.progress().is_planned(actor, &act, &decided);
         self.record_act(alloc, seat, act, decided)
     }
 
@@ -63,7 +63,7 @@ impl<L: Ledgers> Book<L> {
         ensures part { IsPartOf seat.old.counted (counted_in self.old) }
     {
         self.tallies.have_part(&mut seat.shares);
-        if let Some(refusal) = self.journal.start_refusal(seat, &call) {
+        if let Some(refusal) = self.start_refusal(seat, &call) {
             return Err(refusal);
         }
         Ok(self.record_call(alloc, seat, call)?)
@@ -73,11 +73,7 @@ impl<L: Ledgers> Book<L> {
     pub fn is_ready(&self, process: u32) -> bool
         ensures { result ≡ is_ready self.now.limits.bounds (world_now self.now) process }
     {
-        calls::resume::is_ready(
-            self.machine(),
-            self.journal.limits.bounds(),
-            process as usize,
-        )
+        self.progress().is_ready(process)
     }
 
     /// Records a resume of a call that is ready. On an error nothing changes.
@@ -88,8 +84,8 @@ impl<L: Ledgers> Book<L> {
         ensures unchanged { OnErr result ((self.new ≡ self.old) × (seat.new ≡ seat.old)) }
     {
         let actor = seat.pid();
-        let decided = self.journal.resume_comes_to(alloc, actor)?;
-        self.journal.is_planned(actor, &Act::Resume, &decided);
+        let decided = self.progress().resume_comes_to(alloc, actor)?;
+        self.progress().is_planned(actor, &Act::Resume, &decided);
         self.record_act(alloc, seat, Act::Resume, decided)
     }
 
@@ -104,13 +100,13 @@ impl<L: Ledgers> Book<L> {
         ensures part { IsPartOf seat.old.counted (counted_in self.old) }
     {
         self.tallies.have_part(&mut seat.shares);
-        if let Some(refusal) = self.journal.exit_refusal(seat) {
+        if let Some(refusal) = self.exit_refusal(seat) {
             return Err(refusal);
         }
         if !self.is_ready(seat.pid()) {
             return Ok(Resumed::Still);
         }
-        if self.journal.resume_overfills(seat.pid()) {
+        if self.progress().resume_overfills(seat.pid()) {
             return Err(Refusal::RunFull);
         }
         Ok(Resumed::Recorded(self.record_resume(alloc, seat)?))

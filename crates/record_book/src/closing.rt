@@ -12,7 +12,6 @@ ghost use Rattle.byte_ledger.specs.Tally.{Misses};
 ghost use Rattle.record_book.specs.Book.{world_now, closed_book};
 ghost use Rattle.record_book.specs.Exits.{closing_record};
 ghost use Rattle.record_book.specs.Counting.{CountsOf, seats_given};
-ghost use Rattle.record_book.specs.Refusals.{is_too_full};
 ghost use Rattle.record_book.specs.Ends.{Ends, Closes};
 ghost use Rattle.record_book.specs.Proved.Leaving.{IsOrphansExit, IsShutBy, OrphansEnd};
 ghost use Rattle.record_book.specs.Proved.Quiet.{AreQuiet};
@@ -23,34 +22,20 @@ use crate::seat::{Receipt, SpentSeat};
 use byte_ledger::gather::Missing;
 use byte_ledger::ledgers::Ledgers;
 use byte_ledger::tallies::{Shares, Sums, Tallies};
-use call_types::act::{Act, HOUSE, Record};
+use call_types::act::{HOUSE, Record};
 use call_types::limits::Limits;
-use calls::exit::decide_close_run;
-use posix_model::change::Decided;
-use posix_model::laws::processes_are_counted;
 use posix_model::pipe_laws::bytes_of_pipe;
 use std::marker::Model;
 use std::sync::Arc;
 
 impl Journal {
-    /// Promises that the record of the closing fits into an open run. It does nothing.
-    fn is_closing_planned(&self)
-        requires { (world_now self.now).closed ≡ false }
-        ensures { is_too_full self.now HOUSE Act.CloseRun ≡ false }
-    {
-        let _house = &self.house;
-        processes_are_counted();
-    }
-
     /// Appends the closing of an open run. Returns the receipts of the house, of which the last is that of the closing.
     pub(crate) fn append_closing(&mut self) -> Vec<Receipt>
         requires { (world_now self.old).closed ≡ false }
         ensures shut { IsShutBy self.old self.new result.items }
         ensures quiet { AreQuiet result.items }
     {
-        self.is_closing_planned();
-        let decided = decide_close_run();
-        self.is_planned(HOUSE, &Act::CloseRun, &decided);
+        self.progress.is_closing_planned();
         let house = match self.house.take() {
             Some(house) => house,
             None => unreachable!(),
@@ -58,8 +43,8 @@ impl Journal {
         let place = self.history.len() as u64;
         let (kept, traced, told) = house.closing.shares();
         let mut receipts = house.receipts;
-        let Decided { change, .. } = decided;
-        Journal::push(&mut self.machine, &mut self.history, kept, traced, change);
+        self.progress.close();
+        self.history.push(kept, traced);
         receipts.push_reserved(Receipt::new(place, told));
         receipts
     }
@@ -80,13 +65,14 @@ impl Journal {
         ensures is_legal { legal self.limits.bounds self.history }
         ensures reserve { length self.history + exits_left (world_now self) ≤ self.limits.records }
     {
+        self.progress.has_reserve();
         let Journal {
-            limits,
+            progress,
             history,
             ..
         } = self;
         let (records, is_traced) = history.end();
-        (limits, records, is_traced)
+        (progress.limits, records, is_traced)
     }
 }
 
@@ -112,7 +98,7 @@ impl<L: Ledgers> Book<L> {
         ensures { OrphansEnd self.old self.new }
     {
         for process in 0..self.next_pid() {
-            if self.journal.awaits(process) {
+            if self.progress().awaits(process) {
                 self.record_orphans_exit(process);
             }
         }
@@ -133,7 +119,7 @@ impl<L: Ledgers> Book<L> {
         self.tallies.count(&mut shares, 0, 0);
         SpentSeat {
             pid: HOUSE,
-            seen: self.journal.len(),
+            seen: self.progress().sums().records,
             receipts,
             shares,
         }
@@ -147,7 +133,7 @@ impl<L: Ledgers> Book<L> {
         ensures closed { (world_now self.new).closed ≡ true }
         ensures none { IfNone result (self.old.house ≡ None) }
     {
-        if self.journal.is_closed() {
+        if self.progress().is_closed() {
             self.journal.has_no_house();
             return None;
         }
@@ -163,7 +149,7 @@ impl<L: Ledgers> Book<L> {
         ensures ok { IfOk result (λ closed. ((world_now self).closed ≡ true) × (closed ≡ self)) }
         ensures err { IfErr result (λ book. ((world_now self).closed ≡ false) × (book ≡ self)) }
     {
-        if self.journal.is_closed() {
+        if self.progress().is_closed() {
             return Ok(self.into_closed());
         }
         Err(self)

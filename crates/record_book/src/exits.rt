@@ -1,21 +1,19 @@
 //! Exits, which take no memory, since what they need is made with the process.
 
-ghost use Rattle.std.specs.Prelude.{◌≡◌, ◌+◌, ◌<◌, ◌^◌, [], None, Some, true, false, is_some, length, slice_set, IfOk, IfErr, OnOk, OnErr};
+ghost use Rattle.std.specs.Prelude.{◌≡◌, ◌+◌, ◌<◌, ◌≤◌, ◌^◌, None, Some, true, false, is_some, length, slice_set, IfOk, IfErr, OnOk, OnErr};
 ghost use Rattle.std.specs.Arc.{arc_value};
 ghost use Rattle.call_types.specs.declared.outcome.Outcome.TheVariants.{Reply as Replied};
 ghost use Rattle.call_types.specs.declared.outcome.Reply.TheVariants.{Done};
 ghost use Rattle.byte_ledger.specs.Counted.{counted_more, IsPartOf};
-ghost use Rattle.slots.specs.Slots.{slot};
+ghost use Rattle.slots.specs.Slots.{slot, live};
 ghost use Rattle.posix_model.specs.Exit.{exit};
 ghost use Rattle.posix_model.specs.Proved.Lengths.{IsShortRecord};
-ghost use Rattle.posix_model.specs.Proved.Whole.{EachThere, IsItsFifo};
-ghost use Rattle.posix_model.specs.Change.{changed};
-ghost use Rattle.posix_model.specs.Sweep.{sweep};
 ghost use Rattle.trace_ring.specs.Proved.Trace.{Pushes};
+ghost use Rattle.record_book.specs.RunState.{grown, next_of};
 ghost use Rattle.record_book.specs.Book.{world_now, Appends};
 ghost use Rattle.record_book.specs.Exits.{exit_record};
 ghost use Rattle.record_book.specs.Counting.{counted_in};
-ghost use Rattle.record_book.specs.Refusals.{exit_refusal, is_too_full};
+ghost use Rattle.record_book.specs.Refusals.{exit_refusal};
 ghost use Rattle.record_book.specs.Ends.{Exits};
 ghost use Rattle.record_book.specs.Proved.Planned.{IsPlanned};
 ghost use Rattle.record_book.specs.Proved.Prepared.{prepared_for, with_prepared};
@@ -25,15 +23,14 @@ ghost use Rattle.record_book.specs.Proved.Leaving.{IsOrphansExit};
 use crate::book::Book;
 use crate::history::History;
 use crate::journal::{House, Journal};
+use crate::progress::Progress;
 use crate::seat::{Receipt, Seat, SpentSeat};
 use byte_ledger::ledgers::Ledgers;
 use byte_ledger::tallies::Shares;
 use call_types::act::{Act, Record};
 use call_types::outcome::{Outcome, Reply};
 use call_types::refusal::Refusal;
-use calls::exit::decide_exit;
-use machine_state::machine::Machine;
-use posix_model::change::{Decided, ProcessEdit};
+use posix_model::change::ProcessEdit;
 use posix_model::laws::processes_are_counted;
 use posix_model::reader::WorldReader;
 use slots::numbered::Numbered;
@@ -103,26 +100,25 @@ fn reserve_house(house: &mut Option<House>, live: usize) -> Result<(), AllocErro
     }
 }
 
-/// Makes what the exit of the process of this number will need: its record, and room for its receipt.
+/// Makes what the exit of the next process will need: its record, and room for its receipt.
 #[inline(never)]
 fn prepare_added(
     alloc: Global,
     exits: &mut Numbered<Prepared>,
     house: &mut Option<House>,
-    number: usize,
-    live: usize,
+    progress: &Progress,
 ) -> Result<Prepared, AllocError>
-    requires few { live < 4294967295 }
-    requires numbered { number < 4294967296 }
-    ensures prepared { IfOk result (λ prepared. prepared ≡ exit_record number) }
+    ensures prepared { IfOk result (λ prepared. prepared ≡ exit_record (next_of progress.now)) }
     ensures exits { exits.new.0 ≡ exits.old.0 }
     ensures room { OnOk result (0 < exits.new.1) }
     ensures house { SameHouse house.old house.new }
-    ensures house_room { OnOk result (HasRoom (live + 1) house.new) }
+    ensures house_room { OnOk result (HasRoom (live progress.now.world.processes + 1) house.new) }
 {
+    progress.has_reserve();
+    let live = progress.machine.live_processes();
     exits.reserve()?;
     reserve_house(house, live + 1)?;
-    Prepared::new(alloc, number as u32, Act::Exit)
+    Prepared::new(alloc, progress.next_pid(), Act::Exit)
 }
 
 /// Makes what the exit of a process will need, if the edit adds one.
@@ -131,20 +127,17 @@ pub(crate) fn prepare_exit(
     alloc: Global,
     exits: &mut Numbered<Prepared>,
     house: &mut Option<House>,
-    number: usize,
-    live: usize,
+    progress: &Progress,
     edit: &ProcessEdit,
 ) -> Result<Option<Prepared>, AllocError>
-    requires few { live < 4294967295 }
-    requires numbered { number < 4294967296 }
-    ensures prepared { IfOk result (λ prepared. prepared ≡ prepared_for number edit.now) }
+    ensures prepared { IfOk result (λ prepared. prepared ≡ prepared_for (next_of progress.now) edit.now) }
     ensures exits { exits.new.0 ≡ exits.old.0 }
     ensures room { IfOk result (λ prepared. is_some prepared ≡ true → 0 < exits.new.1) }
     ensures house { SameHouse house.old house.new }
-    ensures house_room { IfOk result (λ prepared. is_some prepared ≡ true → HasRoom (live + 1) house.new) }
+    ensures house_room { IfOk result (λ prepared. is_some prepared ≡ true → HasRoom (live progress.now.world.processes + 1) house.new) }
 {
     match edit {
-        ProcessEdit::Add { .. } => Ok(Some(prepare_added(alloc, exits, house, number, live)?)),
+        ProcessEdit::Add { .. } => Ok(Some(prepare_added(alloc, exits, house, progress)?)),
         _ => Ok(None),
     }
 }
@@ -162,52 +155,32 @@ pub(crate) fn keep_exit(exits: &mut Numbered<Prepared>, prepared: Option<Prepare
 
 /// Ends a process by its prepared record, and returns the receipt.
 fn end_process(
-    machine: &mut Machine,
+    progress: &mut Progress,
     history: &mut History,
     exits: &mut Numbered<Prepared>,
-    process: usize,
+    process: u32,
 ) -> Receipt
-    requires there { is_some (slot machine.old.world.processes process) ≡ true }
+    requires there { is_some (slot progress.old.world.processes process) ≡ true }
     requires prepared { slot exits.old.0 process ≡ Some (exit_record process) }
-    requires room { 0 < history.old.free }
-    requires ends { EachThere (λ description. IsItsFifo machine.old.world.files description.target) machine.old.world.descriptions }
-    ensures pipes { machine.new.room.capacity ≡ machine.old.room.capacity }
-    ensures world { machine.new.world ≡ sweep (changed machine.old.world [] (exit process).change) }
+    requires room { progress.old.limits.records ≤ progress.old.counts.records + history.old.free }
+    ensures planned { IsPlanned progress.old process Act.Exit (exit process) }
+    ensures grows { progress.new ≡ grown progress.old (exit_record process) }
     ensures history { Pushes history.old history.new (exit_record process) }
     ensures exits { exits.new.0 ≡ slice_set exits.old.0 process None }
     ensures receipt { result ≡ record { place = length history.old.sent; record_is = exit_record process } }
 {
+    progress.is_exit_planned(process);
     let place = history.len() as u64;
-    let (kept, traced, told) = match exits.remove(process) {
+    let (kept, traced, told) = match exits.remove(process as usize) {
         Some(prepared) => prepared.shares(),
         None => unreachable!(),
     };
-    let Decided { change, .. } = decide_exit(process);
-    Journal::push(machine, history, kept, traced, change);
+    progress.end_process(process);
+    history.push(kept, traced);
     Receipt::new(place, told)
 }
 
 impl Journal {
-    /// Promises that the record of a live process's exit fits into the run. It does nothing.
-    fn exit_fits(&self, process: u32)
-        requires { is_some (slot (world_now self.now).processes process) ≡ true }
-        ensures { is_too_full self.now process Act.Exit ≡ false }
-    {
-        let _process = process;
-        let _house = &self.house;
-        processes_are_counted();
-    }
-
-    /// Promises that the exit of a live process can be recorded. It does nothing.
-    fn is_exit_planned(&self, process: u32)
-        requires { is_some (slot (world_now self.now).processes process) ≡ true }
-        ensures { IsPlanned self.now process Act.Exit (exit process) }
-    {
-        self.exit_fits(process);
-        let decided = decide_exit(process as usize);
-        self.is_planned(process, &Act::Exit, &decided);
-    }
-
     /// Appends the exit of a live process, and returns the receipt.
     pub(crate) fn append_exit(&mut self, process: u32) -> Receipt
         requires { is_some (slot (world_now self.old).processes process) ≡ true }
@@ -215,12 +188,12 @@ impl Journal {
         ensures record_is { result.record_is ≡ exit_record process }
         ensures few { result.place + 1 < 2 ^ 64 }
     {
-        self.is_exit_planned(process);
+        self.progress.has_reserve();
         end_process(
-            &mut self.machine,
+            &mut self.progress,
             &mut self.history,
             &mut self.exits,
-            process as usize,
+            process,
         )
     }
 
@@ -230,12 +203,11 @@ impl Journal {
         requires is_open { (world_now self.old).closed ≡ false }
         ensures { IsOrphansExit self.old self.new process }
     {
-        self.is_exit_planned(process);
         let receipt = end_process(
-            &mut self.machine,
+            &mut self.progress,
             &mut self.history,
             &mut self.exits,
-            process as usize,
+            process,
         );
         match &mut self.house {
             Some(house) => house.receipts.push_reserved(receipt),
@@ -278,7 +250,7 @@ impl<L: Ledgers> Book<L> {
     {
         let mut seat = seat;
         self.tallies.have_part(&mut seat.shares);
-        if let Some(refusal) = self.journal.exit_refusal(&seat) {
+        if let Some(refusal) = self.exit_refusal(&seat) {
             return Err(Unspent { seat, refusal });
         }
         let Seat {

@@ -109,7 +109,7 @@ pub struct BytesMoved {
 /// How many bytes a record took from its process and gave to it. The machine must still be as it was before the record, which
 /// takes no more than the data of its call, or of the call that its process waits in.
 #[inline(always)]
-pub fn bytes_moved(machine: &Machine, item: &Record) -> BytesMoved
+pub(crate) fn bytes_moved(machine: &Machine, item: &Record) -> BytesMoved
     requires { took machine.now.world item.now ≤ length (data_of machine.now.world item.now.actor item.now.act) }
     ensures bytes_in { result.bytes_in ≡ took machine.now.world item.now }
     ensures bytes_out { (w : World) → result.bytes_out ≡ gave w item.now }

@@ -6,7 +6,6 @@ use crate::seat::{Receipt, Seat, SpentSeat};
 use byte_ledger::ledgers::Ledgers;
 use call_types::act::Act;
 use call_types::refusal::Refusal;
-use posix_model::reader::WorldReader;
 use std::alloc::{AllocError, Global};
 
 /// What a join or an attach gives: a seat of type `S`, or a spent seat of type `P`.
@@ -28,8 +27,7 @@ impl<L: Ledgers> Book<L> {
     pub fn next_pid(&self) -> u32
         ensures { result ≡ next_pid self.now }
     {
-        let _records = self.journal.limits.records();
-        self.machine().next_process() as u32
+        self.progress().next_pid()
     }
 
     /// Records a join that is not refused. Returns the seat and, beside it, its receipt. On an error nothing changes.
@@ -38,10 +36,10 @@ impl<L: Ledgers> Book<L> {
         ensures recorded { IfOk result (λ joined. JoinsBy self.old self.new joined.0 joined.1) }
         ensures unchanged { OnErr result (self.new ≡ self.old) }
     {
-        let full = self.journal.is_full();
+        let full = self.progress().is_full();
         let actor = self.next_pid();
-        let decided = self.journal.join_comes_to(alloc)?;
-        self.journal.is_planned(actor, &Act::Join, &decided);
+        let decided = self.progress().join_comes_to(alloc)?;
+        self.progress().is_planned(actor, &Act::Join, &decided);
         let (seat, receipt) = self.record_opening(alloc, actor, Act::Join, decided)?;
         if full {
             return Ok((Opened::Refused(SpentSeat::of(seat)), receipt));
@@ -59,9 +57,9 @@ impl<L: Ledgers> Book<L> {
         ensures recorded { IfOk result (λ attached. AttachesBy self.old self.new process attached.0 attached.1) }
         ensures unchanged { OnErr result (self.new ≡ self.old) }
     {
-        let awaits = self.journal.awaits(process);
-        let decided = self.journal.attach_comes_to(process);
-        self.journal.is_planned(process, &Act::Attach, &decided);
+        let awaits = self.progress().awaits(process);
+        let decided = self.progress().attach_comes_to(process);
+        self.progress().is_planned(process, &Act::Attach, &decided);
         let (seat, receipt) = self.record_opening(alloc, process, Act::Attach, decided)?;
         if awaits {
             return Ok((Opened::Seated(seat), receipt));
@@ -76,7 +74,7 @@ impl<L: Ledgers> Book<L> {
         ensures refused { IfErr result (λ refusal. IsDue (join_refusal self.old) refusal) }
         ensures unchanged { OnErr result (self.new ≡ self.old) }
     {
-        if self.journal.join_overfills() {
+        if self.progress().join_overfills() {
             return Err(Refusal::RunFull);
         }
         let (opened, _receipt) = self.record_join(alloc)?;
@@ -91,7 +89,7 @@ impl<L: Ledgers> Book<L> {
         ensures refused { IfErr result (λ refusal. IsDue (attach_refusal self.old process) refusal) }
         ensures unchanged { OnErr result (self.new ≡ self.old) }
     {
-        if self.journal.attach_overfills(process) {
+        if self.progress().attach_overfills(process) {
             return Err(Refusal::RunFull);
         }
         let (opened, _receipt) = self.record_attach(alloc, process)?;

@@ -3,13 +3,13 @@
 ghost use Rattle.std.specs.Prelude.{◌≡◌, ◌<◌, ◌≤◌, ◌+◌, ◌^◌, ◌∷◌, [], false, vec_capacity, IfOk, OnErr};
 ghost use Rattle.byte_ledger.specs.Counted.{counted_more};
 ghost use Rattle.posix_model.specs.Proved.Sound.{ended, closes};
-ghost use Rattle.record_book.specs.Book.{Records};
+ghost use Rattle.record_book.specs.Book.{Records, run_of};
 ghost use Rattle.record_book.specs.Openings.{IsOpening};
 ghost use Rattle.record_book.specs.Counting.{seats_of, only_records, CountsOwn};
 ghost use Rattle.record_book.specs.Proved.Planned.{IsPlanned};
 
-use crate::append::Appended;
 use crate::book::Book;
+use crate::journal::Appended;
 use crate::seat::{Receipt, Seat};
 use byte_ledger::ledgers::Ledgers;
 use byte_ledger::tallies::Tallies;
@@ -69,7 +69,7 @@ impl<L: Ledgers> Book<L> {
         act: Act,
         decided: Decided,
     ) -> Result<Receipt, AllocError>
-        requires planned { IsPlanned self.old seat.old.pid act decided }
+        requires planned { IsPlanned (run_of self.old) seat.old.pid act decided }
         requires opens { seats_of act ≡ 0 }
         requires ends { ended act ≡ 0 }
         requires closes { closes act ≡ false }
@@ -100,7 +100,7 @@ impl<L: Ledgers> Book<L> {
         act: Act,
         decided: Decided,
     ) -> Result<(Seat<L>, Receipt), AllocError>
-        requires planned { IsPlanned self.old actor act decided }
+        requires planned { IsPlanned (run_of self.old) actor act decided }
         requires opens { seats_of act ≡ 1 }
         requires ends { ended act ≡ 0 }
         requires closes { closes act ≡ false }

@@ -20,7 +20,7 @@ use Rattle.record_book.specs.Seat.{Receipted}
 use Rattle.record_book.specs.Exits.{exit_record, closing_record, closing_records, orphans_exits, receipts_from}
 use Rattle.record_book.proofs.ExitLemmas.{exits_ahead, ahead_other, ahead_orphan, ahead_none, receipts_more}
 use Rattle.record_book.proofs.HistoryLemmas.{legal_from-push}
-use Rattle.script_run.specs.RunState.{RunState, grown}
+use Rattle.record_book.specs.RunState.{RunState, grown}
 use Rattle.script_run.specs.Proved.Closing.{Adds, ClosesBy, OrphansEnd, OrphansSoFar, SameHere, grown_by}
 use Rattle.script_run.specs.Proved.Going.{Grows}
 use Rattle.script_run.proofs.FitsLemmas.{came_to, made_outcome, world_stepped}

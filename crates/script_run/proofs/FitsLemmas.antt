@@ -1,28 +1,23 @@
 -- Books that fit a run, with more records.
-use Rattle.std.proofs.Common.{◌≡◌, ◌∙◌, ℕ, ◌+◌, ◌≤◌, List, [], ◌∷◌, ◌++◌, Option, None, Some, length, refl, ap, sym, subst, length-append, append_assoc, append-nil}
-use Rattle.std.specs.Prelude.{not}
+use Rattle.std.proofs.Common.{◌≡◌, ◌∙◌, ℕ, ◌+◌, ◌≤◌, List, [], ◌∷◌, ◌++◌, Option, None, Some, refl, ap, sym, subst, append_assoc, append-nil}
 use Rattle.std.specs.Option.{option_map}
 use Rattle.call_types.specs.declared.act.Act.{Act}
 use Rattle.call_types.specs.declared.act.Record.{Record}
-use Rattle.call_types.specs.declared.limits.Limits.{Limits}
 use Rattle.call_types.specs.declared.outcome.Outcome.{Outcome}
-use Rattle.posix_model.specs.History.{empty_world, after, after_act, legal_from}
-use Rattle.posix_model.specs.Reserve.{exits_left, has_reserve}
+use Rattle.posix_model.specs.History.{empty_world, after_act, legal_from}
+use Rattle.posix_model.specs.Reserve.{exits_left}
 use Rattle.posix_model.specs.Step.{comes_to, given, outcome_of, stepped}
-use Rattle.posix_model.specs.Turns.{bytes_in, bytes_out, took, gave}
 use Rattle.posix_model.specs.Proved.PipeLaws.{BytesOfPipe, SmallWritesUnbroken}
 use Rattle.posix_model.specs.declared.change.Decided.{Decided}
 use Rattle.posix_model.specs.declared.world.World.{World}
 use Rattle.record_book.specs.Seat.{Receipted}
 use Rattle.record_book.specs.Book.{BookState, world_now, Appends}
-use Rattle.record_book.specs.Refusals.{is_too_full}
-use Rattle.record_book.proofs.HistoryLemmas.{world_from-push, legal_from-push, bytes_in-push, bytes_out-push}
-use Rattle.script_run.specs.RunState.{RunState, grown}
+use Rattle.record_book.specs.RunState.{RunState, grown}
+use Rattle.record_book.proofs.HistoryLemmas.{legal_from-push, run_push}
 use Rattle.script_run.specs.Fits.{LeadsTo, FitsRun, SeatsFit, IsCounted, house_of}
 use Rattle.script_run.specs.Runs.{Seats}
 use Rattle.script_run.specs.Proved.Closing.{grown_by}
 use Rattle.script_run.specs.Proved.Going.{Grows}
-use Rattle.script_run.specs.Proved.Refusing.{is_too_full as run_is_too_full}
 
 -- a book with one record more
 abbrev pub with_record : BookState → Record → BookState
@@ -31,25 +26,14 @@ with_record b r = record b { history = b.history ++ r ∷ [] }
 -- the outcome of an act, as the book gives it
 outcome_in : (b : BookState) (s : RunState) (actor : ℕ) (a : Act) (o : Outcome) → LeadsTo b s → outcome_of s.limits.bounds s.world actor a ≡ Some o →
     outcome_of b.limits.bounds (world_now b) actor a ≡ Some o
-outcome_in b s actor a o leads is =
-    ap (λ (w : World). outcome_of b.limits.bounds w actor a) leads.world ∙ (ap (λ (l : Limits). outcome_of l.bounds s.world actor a) leads.limits ∙ is)
+outcome_in b s actor a o leads is = subst (λ (x : RunState). outcome_of x.limits.bounds x.world actor a ≡ Some o) leads.run is
 
 pub leads_more : (b : BookState) (s : RunState) (r : Record) → LeadsTo b s → outcome_of s.limits.bounds s.world r.actor r.act ≡ Some r.outcome →
     LeadsTo (with_record b r) (grown s r)
-leads_more b s r leads is =
-    let bounds = b.limits.bounds in
-    let h = b.history in
-    record {
-      limits = leads.limits;
-      world =
-          world_from-push bounds empty_world h r ∙ (ap (λ (w : World). after bounds w r) leads.world ∙
-          ap (λ (l : Limits). after l.bounds s.world r) leads.limits);
-      records = length-append h (r ∷ []) ∙ ap (λ (n : ℕ). n + 1) leads.records;
-      bytes_in = bytes_in-push bounds h r ∙ (ap (λ (w : World). bytes_in bounds h + took w r) leads.world ∙ ap (λ (n : ℕ). n + took s.world r) leads.bytes_in);
-      bytes_out = bytes_out-push bounds h r ∙ (ap (λ (w : World). bytes_out bounds h + gave w r) leads.world ∙
-          ap (λ (n : ℕ). n + gave s.world r) leads.bytes_out);
-      is_legal = legal_from-push bounds empty_world h r leads.is_legal (outcome_in b s r.actor r.act r.outcome leads is);
-    }
+leads_more b s r leads is = record {
+  run = ap (λ (x : RunState). grown x r) leads.run ∙ sym (run_push b.limits b.history r);
+  is_legal = legal_from-push b.limits.bounds empty_world b.history r leads.is_legal (outcome_in b s r.actor r.act r.outcome leads is);
+}
 
 -- the record that an act makes has its outcome
 pub made_outcome : (s t : RunState) (actor : ℕ) (a : Act) (told : Receipted) → Grows s t actor a told →
@@ -66,7 +50,7 @@ appends_one b s t actor a told leads made = record {
   outcome = outcome_in b s actor a told.record_is.outcome leads made.outcome;
   actor_is = made.actor_is;
   act_is = made.act_is;
-  place = made.place ∙ sym leads.records;
+  place = made.place ∙ ap (λ (x : RunState). x.counts.records) leads.run;
   history = refl;
   limits = refl;
   house = refl;
@@ -110,13 +94,6 @@ fits_more b s t seats after actor a told fits made same seats_fit = record {
   seats_fit = seats_fit;
 }
 
--- the book is as full as the run
-pub full_same : (b : BookState) (s : RunState) (actor : ℕ) (a : Act) → LeadsTo b s → is_too_full b actor a ≡ run_is_too_full s actor a
-full_same b s actor a leads =
-    ap (λ (w : World). not (has_reserve b.limits.records (after_act b.limits.bounds w actor a) (length b.history + 1))) leads.world
-    ∙ (ap (λ (l : Limits). not (has_reserve l.records (after_act l.bounds s.world actor a) (length b.history + 1))) leads.limits
-    ∙ ap (λ (n : ℕ). not (has_reserve s.limits.records (after_act s.limits.bounds s.world actor a) (n + 1))) leads.records)
-
 -- a book with more records
 abbrev pub with_records : BookState → List Record → BookState
 with_records b rs = record b { history = b.history ++ rs }
@@ -132,12 +109,13 @@ leads_all b s (r ∷ rs) leads sound =
 pub counts_all : BytesOfPipe → SmallWritesUnbroken → (s : RunState) → s.counts.records + exits_left s.world ≤ s.limits.records → IsCounted s s.counts
 counts_all bytes small s reserve = λ b seats fits.
     let leads = fits.leads in
+    let run = leads.run in
     record {
-      records = sym leads.records;
-      bytes_in = sym leads.bytes_in;
-      bytes_out = sym leads.bytes_out;
+      records = ap (λ (x : RunState). x.counts.records) run;
+      bytes_in = ap (λ (x : RunState). x.counts.bytes_in) run;
+      bytes_out = ap (λ (x : RunState). x.counts.bytes_out) run;
       is_legal = leads.is_legal;
       pipes = bytes b.limits.bounds b.history leads.is_legal;
       small_writes = small b.limits.bounds b.history leads.is_legal;
-      reserve = rw (leads.world, leads.limits, leads.records) reserve;
+      reserve = subst (λ (x : RunState). x.counts.records + exits_left x.world ≤ x.limits.records) run reserve;
     }

@@ -1,9 +1,9 @@
 -- What is told of an act is what each book and seats that fit the run tell of it.
-use Rattle.std.proofs.Common.{◌≡◌, ◌≢◌, ◌∙◌, ℕ, ◌+◌, ◌≤◌, ◌||◌, Bool, true, false, cond, ◌&&◌, List, [], ◌∷◌, ◌++◌, Option, None, Some, Result, Ok, Err, length, set, refl, ap, sym, subst, arith, eqb}
+use Rattle.std.proofs.Common.{◌≡◌, ◌≢◌, ◌∙◌, ℕ, ◌+◌, ◌≤◌, ◌||◌, Bool, true, false, cond, List, [], ◌∷◌, ◌++◌, Option, None, Some, Result, Ok, Err, length, set, refl, ap, sym, subst, arith}
 use Rattle.std.specs.Prelude.{not, nat_lt}
 use Rattle.std.specs.Global.{Vec}
 use Rattle.std.specs.Option.{option_map}
-use Rattle.std.proofs.lemmas.Bool.{eq-eqb, le-ltb}
+use Rattle.std.proofs.lemmas.Bool.{le-ltb}
 use Rattle.call_types.specs.declared.act.Act.{Act}
 use Rattle.call_types.specs.declared.act.Act.TheVariants as act
 use Rattle.call_types.specs.declared.act.Record.{Record}
@@ -11,9 +11,8 @@ use Rattle.call_types.specs.declared.act.ScriptAct.{ScriptAct}
 use Rattle.call_types.specs.declared.act.ScriptAct.TheVariants as script
 use Rattle.call_types.specs.declared.act.TheConstants.{HOUSE}
 use Rattle.call_types.specs.declared.call.Call.{Call}
-use Rattle.call_types.specs.declared.limits.Limits.{Limits}
 use Rattle.call_types.specs.declared.refusal.Refusal.{Refusal}
-use Rattle.call_types.specs.declared.refusal.Refusal.TheVariants.{RunFull, Waiting, NotHere}
+use Rattle.call_types.specs.declared.refusal.Refusal.TheVariants.{NotHere}
 use Rattle.byte_ledger.specs.Counted.{counted_more}
 use Rattle.slots.specs.Slots.{slot, edited}
 use Rattle.process_table.specs.declared.process.Process.{Process}
@@ -22,8 +21,7 @@ use Rattle.posix_model.specs.Attach.{attach}
 use Rattle.posix_model.specs.Exit.{exit}
 use Rattle.posix_model.specs.Join.{is_full, join}
 use Rattle.posix_model.specs.Pages.{decided_by}
-use Rattle.posix_model.specs.Resume.{is_ready}
-use Rattle.posix_model.specs.Step.{can_call, comes_to, decided, given, is_parked, step, stepped}
+use Rattle.posix_model.specs.Step.{can_call, comes_to, decided, given, step, stepped}
 use Rattle.posix_model.specs.Turns.{took, gave}
 use Rattle.posix_model.specs.Proved.Laws.{StepPlansProcesses}
 use Rattle.posix_model.specs.Proved.Sound.{closes}
@@ -31,23 +29,22 @@ use Rattle.posix_model.specs.declared.change.Decided.{Decided}
 use Rattle.posix_model.specs.declared.world.World.{World}
 use Rattle.posix_model.proofs.SlotLaws.{set_other, slot_at_end, slot_set_there}
 use Rattle.record_book.specs.Seat.{Receipted, SeatState}
-use Rattle.record_book.specs.Book.{BookState, world_now, Appends, Records}
+use Rattle.record_book.specs.RunState.{RunState, grown, next_of}
+use Rattle.record_book.specs.Book.{BookState, run_of, world_now, Appends, Records}
 use Rattle.record_book.specs.Ends.{Ends, told_more}
 use Rattle.record_book.specs.Exits.{closing_records, receipts_from}
 use Rattle.record_book.specs.Openings.{first_seat, next_pid}
-use Rattle.record_book.specs.Refusals.{IsDue, exit_refusal, first_refusal, is_ready_in, is_too_full, join_refusal, attach_refusal, resume_refusal, start_refusal}
-use Rattle.script_run.specs.RunState.{RunState, grown}
+use Rattle.record_book.specs.Refusals.{IsDue, exit_refusal, first_refusal, foreign, is_ready_in, join_refusal, attach_refusal, resume_refusal, start_refusal, call_refusals, exit_refusals, is_run_ready, opening_refusals, resume_refusals}
+use Rattle.record_book.proofs.PlanLemmas.{join_comes}
 use Rattle.script_run.specs.Runs.{Seats, Tells, Unchanged, CallRuns, ExitRuns, ResumeRuns, StaysStill, seat_of_house, seats_after, with_seat}
 use Rattle.script_run.specs.Fits.{LeadsTo, FitsRun, RunsTo, SeatsFit, StandsFor, house_of}
 use Rattle.script_run.specs.Proved.Closing.{ClosesBy, grown_by}
 use Rattle.script_run.specs.Proved.Going.{Grows, JoinGoes, AttachGoes, CallGoes, ExitGoes, ResumeGoes, answer_of}
-use Rattle.script_run.specs.Proved.Refusing.{call_refusal, opening_refusal}
-use Rattle.script_run.specs.Proved.Refusing as run
 use Rattle.script_run.specs.declared.told.ScriptAnswer.{ScriptAnswer}
 use Rattle.script_run.specs.declared.told.ScriptAnswer.TheVariants.{Recorded, Closed, Still, Refused}
 use Rattle.script_run.proofs.HereLemmas.{here_stepped}
 use Rattle.script_run.proofs.CallLemmas.{Leaves, call_leaves, resume_leaves}
-use Rattle.script_run.proofs.FitsLemmas.{appends_one, came_to, fits_more, full_same, leads_all, records_made, with_record, with_records, world_stepped}
+use Rattle.script_run.proofs.FitsLemmas.{appends_one, came_to, fits_more, leads_all, records_made, with_record, with_records, world_stepped}
 use Rattle.script_run.proofs.RunLemmas.{goes_on}
 use Rattle.script_run.proofs.SeatLemmas.{pushed_other, seat_put, seats_at, seats_stay, slot_emptied}
 
@@ -90,19 +87,13 @@ here_made s t actor a told made leaves q =
 
 -- ---- joins and attaches
 
-join_free : (b : BookState) (s : RunState) → LeadsTo b s → join_refusal b ≡ opening_refusal s (run.next_pid s) act.Join
-join_free b s leads =
-    let next : next_pid b ≡ run.next_pid s = ap (λ (w : World). length w.processes) leads.world in
-    ap (λ (n : ℕ). first_refusal ((is_too_full b n act.Join, RunFull) ∷ [])) next ∙ ap (λ (full : Bool). first_refusal ((full, RunFull) ∷ []))
-    (full_same b s (run.next_pid s) act.Join leads)
+join_free : (b : BookState) (s : RunState) → LeadsTo b s → join_refusal b ≡ first_refusal (opening_refusals s (next_of s) act.Join)
+join_free b s leads = ap (λ (x : RunState). first_refusal (opening_refusals x (next_of x) act.Join)) (sym leads.run)
 
-attach_free : (b : BookState) (s : RunState) (p : ℕ) → LeadsTo b s → attach_refusal b p ≡ opening_refusal s p act.Attach
-attach_free b s p leads = ap (λ (full : Bool). first_refusal ((full, RunFull) ∷ [])) (full_same b s p act.Attach leads)
+attach_free : (b : BookState) (s : RunState) (p : ℕ) → LeadsTo b s → attach_refusal b p ≡ first_refusal (opening_refusals s p act.Attach)
+attach_free b s p leads = ap (λ (x : RunState). first_refusal (opening_refusals x p act.Attach)) (sym leads.run)
 
 -- the processes after a join
-join_comes : (s : RunState) → comes_to s.limits.bounds s.world (run.next_pid s) act.Join ≡ Some (decided_by (join s.world))
-join_comes s = let n = length s.world.processes in let same : eqb n n ≡ true = eq-eqb n n refl in rw same refl
-
 joined : (w : World) (b : Bool) → is_full w ≡ b → (stepped w [] (decided_by (join w))).world.processes ≡ cond b w.processes
     (w.processes ++ Some (process_with free_table true) ∷ [])
 joined w true e = rw e refl
@@ -155,16 +146,16 @@ attach_seats ps qs records more p told seats true e fits place count is =
     (λ q apart. ap (λ (l : List (Option Process)). is_here (slot l q)) is ∙ ap is_here (set_other ps p q (option_map with_connection (slot ps p)) apart))
 
 pub join_to : StepPlansProcesses → (b : BookState) (seats : Seats) (s t : RunState) (ran : Result Receipted Refusal) → FitsRun b seats s → JoinGoes s t ran →
-    RunsTo b seats t script.Join (answer_of (run.next_pid s) script.Join ran)
+    RunsTo b seats t script.Join (answer_of (next_of s) script.Join ran)
 join_to planned b seats s t (Ok told) fits goes =
     let leads = fits.leads in
-    let n = run.next_pid s in
+    let n = next_of s in
     let made = goes.1 in
-    let next : next_pid b ≡ n = ap (λ (w : World). length w.processes) leads.world in
+    let next : next_pid b ≡ n = ap next_of (sym leads.run) in
     let book = with_record b told.record_is in
     let after = seats_after n told seats (is_full s.world) in
     let same : seats_after (next_pid b) told seats (is_full (world_now b)) ≡ after =
-    ap (λ (m : ℕ). seats_after m told seats (is_full (world_now b))) next ∙ ap (λ (w : World). seats_after n told seats (is_full w)) leads.world in
+    ap (λ (x : RunState). seats_after (next_of x) told seats (is_full x.world)) (sym leads.run) in
     let processes = ap (λ (w : World). w.processes) (world_stepped s t n act.Join told (decided_by (join s.world)) made (join_comes s)) ∙
     joined s.world (is_full s.world) refl in
     let seats_fit = join_seats s.world.processes t.world.processes s.counts.records t.counts.records told seats (is_full s.world) fits.seats_fit made.place
@@ -178,8 +169,8 @@ join_to planned b seats s t (Ok told) fits goes =
       seats_are = sym same;
     })
 join_to planned b seats s t (Err refusal) fits goes =
-    let next : next_pid b ≡ run.next_pid s = ap (λ (w : World). length w.processes) fits.leads.world in
-    runs_to b seats t script.Join (Refused (run.next_pid s) script.Join refusal) b seats (still_fits b seats s t fits goes.1)
+    let next : next_pid b ≡ next_of s = ap next_of (sym fits.leads.run) in
+    runs_to b seats t script.Join (Refused (next_of s) script.Join refusal) b seats (still_fits b seats s t fits goes.1)
     (sym next, refl, (subst (λ (due : Option Refusal). IsDue due refusal) (sym (join_free b s fits.leads)) goes.0, unchanged b seats))
 
 pub attach_to : StepPlansProcesses → (b : BookState) (seats : Seats) (s t : RunState) (p : ℕ) (ran : Result Receipted Refusal) → FitsRun b seats s →
@@ -191,7 +182,7 @@ attach_to planned b seats s t p (Ok told) fits goes =
     let waits = awaits (slot s.world.processes p) in
     let after = seats_after p told seats (not waits) in
     let same : seats_after p told seats (not (awaits (slot (world_now b).processes p))) ≡ after =
-    ap (λ (w : World). seats_after p told seats (not (awaits (slot w.processes p)))) leads.world in
+    ap (λ (x : RunState). seats_after p told seats (not (awaits (slot x.world.processes p)))) (sym leads.run) in
     let processes = ap (λ (w : World). w.processes) (world_stepped s t p act.Attach told (decided_by (attach s.world p)) made refl) ∙
     attached s.world p waits refl in
     let seats_fit = attach_seats s.world.processes t.world.processes s.counts.records t.counts.records p told seats waits refl fits.seats_fit made.place
@@ -205,45 +196,28 @@ attach_to planned b seats s t p (Err refusal) fits goes =
 
 -- ---- acts of a process that has a seat
 
--- of a seat that has seen no more than there is, the first refusal is another
-unseen : (b : BookState) (s : RunState) (x : SeatState) → LeadsTo b s → x.seen ≤ s.counts.records → nat_lt (length b.history) x.seen ≡ false
-unseen b s x leads seen = le-ltb (length b.history) x.seen (omega (arith, leads.records, seen))
-
-abbrev exit_due : World → ℕ → Option Refusal
-exit_due w n = first_refusal ((not (is_here (slot w.processes n)), NotHere) ∷ [])
+-- of a seat that has seen no more than there is, the first refusal is another, as the run knows it
+seat_same : (b : BookState) (s : RunState) (x : SeatState) (p : ℕ) (refusals : RunState → ℕ → List (Bool × Refusal)) → LeadsTo b s → x.pid ≡ p →
+    x.seen ≤ s.counts.records → first_refusal (foreign b x ∷ refusals (run_of b) x.pid) ≡ first_refusal (refusals s p)
+seat_same b s x p refusals leads pid seen =
+    let few : x.seen ≤ length b.history = subst (λ (y : RunState). x.seen ≤ y.counts.records) leads.run seen in
+    let known : nat_lt (length b.history) x.seen ≡ false = le-ltb (length b.history) x.seen few in
+    rw known (ap (λ (n : ℕ). first_refusal (refusals (run_of b) n)) pid ∙ ap (λ (y : RunState). first_refusal (refusals y p)) (sym leads.run))
 
 exit_same : (b : BookState) (s : RunState) (x : SeatState) (p : ℕ) → LeadsTo b s → x.pid ≡ p → x.seen ≤ s.counts.records →
-    exit_refusal b x ≡ run.exit_refusal s p
-exit_same b s x p leads pid seen =
-    let first : exit_refusal b x ≡ exit_due (world_now b) x.pid = rw (unseen b s x leads seen) refl in
-    first ∙ (ap (λ (w : World). exit_due w x.pid) leads.world ∙ ap (exit_due s.world) pid)
-
-abbrev call_due : World → ℕ → Bool → Option Refusal
-call_due w n full = first_refusal ((not (is_here (slot w.processes n)), NotHere) ∷ (is_parked (slot w.processes n), Waiting) ∷ (full, RunFull) ∷ [])
+    exit_refusal b x ≡ first_refusal (exit_refusals s p)
+exit_same b s x p = seat_same b s x p exit_refusals
 
 start_same : (b : BookState) (s : RunState) (x : SeatState) (p : ℕ) (c : Call) → LeadsTo b s → x.pid ≡ p → x.seen ≤ s.counts.records →
-    start_refusal b x c ≡ call_refusal s p c
-start_same b s x p c leads pid seen =
-    let a = act.Call c in
-    let first : start_refusal b x c ≡ call_due (world_now b) x.pid (is_too_full b x.pid a) = rw (unseen b s x leads seen) refl in
-    first ∙ (ap (λ (w : World). call_due w x.pid (is_too_full b x.pid a)) leads.world ∙ (ap (λ (n : ℕ). call_due s.world n (is_too_full b n a)) pid ∙
-    ap (call_due s.world p) (full_same b s p a leads)))
-
-ready_same : (b : BookState) (s : RunState) (p : ℕ) → LeadsTo b s → is_ready_in b p ≡ run.is_ready_in s p
-ready_same b s p leads = ap (λ (w : World). is_ready b.limits.bounds w p) leads.world ∙ ap (λ (l : Limits). is_ready l.bounds s.world p) leads.limits
-
-abbrev resume_due : World → ℕ → Bool → Option Refusal
-resume_due w n full = first_refusal ((not (is_here (slot w.processes n)), NotHere) ∷ (full, RunFull) ∷ [])
+    start_refusal b x c ≡ first_refusal (call_refusals s p c)
+start_same b s x p c = seat_same b s x p (λ y n. call_refusals y n c)
 
 resume_same : (b : BookState) (s : RunState) (x : SeatState) (p : ℕ) → LeadsTo b s → x.pid ≡ p → x.seen ≤ s.counts.records →
-    resume_refusal b x ≡ run.resume_refusal s p
-resume_same b s x p leads pid seen =
-    let first : resume_refusal b x ≡ resume_due (world_now b) x.pid (is_ready_in b x.pid && is_too_full b x.pid act.Resume) =
-    rw (unseen b s x leads seen) refl in
-    first ∙ (ap (λ (w : World). resume_due w x.pid (is_ready_in b x.pid && is_too_full b x.pid act.Resume)) leads.world
-    ∙ (ap (λ (n : ℕ). resume_due s.world n (is_ready_in b n && is_too_full b n act.Resume)) pid
-    ∙ (ap (λ (ready : Bool). resume_due s.world p (ready && is_too_full b p act.Resume)) (ready_same b s p leads)
-    ∙ ap (λ (full : Bool). resume_due s.world p (run.is_ready_in s p && full)) (full_same b s p act.Resume leads))))
+    resume_refusal b x ≡ first_refusal (resume_refusals s p)
+resume_same b s x p = seat_same b s x p resume_refusals
+
+ready_same : (b : BookState) (s : RunState) (p : ℕ) → LeadsTo b s → is_ready_in b p ≡ is_run_ready s p
+ready_same b s p leads = ap (λ (x : RunState). is_run_ready x p) (sym leads.run)
 
 -- the seat has the receipt
 abbrev received : BookState → SeatState → Receipted → SeatState
@@ -300,7 +274,7 @@ call_to planned b seats s t p c (Recorded told) fits goes = by_seat (slot seats 
   where
     by_seat : (x : Option SeatState) → slot seats p ≡ x → StandsFor s.counts.records p (slot s.world.processes p) x →
         RunsTo b seats t (script.Call p c) (Recorded told)
-    by_seat None is none = absurd (not_none (call_refusal s p c) NotHere (rw none refl) goes.0)
+    by_seat None is none = absurd (not_none (first_refusal (call_refusals s p c)) NotHere (rw none refl) goes.0)
     by_seat (Some x) is stands =
         let a = act.Call c in
         let book = with_record b told.record_is in
@@ -317,7 +291,7 @@ call_to planned b seats s t p c (Refused actor refused refusal) fits goes =
     by_seat : (x : Option SeatState) → slot seats p ≡ x → StandsFor s.counts.records p (slot s.world.processes p) x → CallRuns b b seats seats p c (Err refusal)
         (slot seats p)
     by_seat None is none =
-        let due : call_refusal s p c ≡ Some NotHere = rw none refl in
+        let due : first_refusal (call_refusals s p c) ≡ Some NotHere = rw none refl in
         subst (CallRuns b b seats seats p c (Err refusal)) (sym is) (subst (λ (d : Option Refusal). IsDue d refusal) due goes.2, unchanged b seats)
     by_seat (Some x) is stands =
         subst (CallRuns b b seats seats p c (Err refusal)) (sym is)
@@ -331,7 +305,7 @@ resume_to planned b seats s t p (Recorded told) fits goes = by_seat (slot seats 
   where
     by_seat : (x : Option SeatState) → slot seats p ≡ x → StandsFor s.counts.records p (slot s.world.processes p) x →
         RunsTo b seats t (script.Resume p) (Recorded told)
-    by_seat None is none = absurd (not_none (run.resume_refusal s p) NotHere (rw none refl) goes.0)
+    by_seat None is none = absurd (not_none (first_refusal (resume_refusals s p)) NotHere (rw none refl) goes.0)
     by_seat (Some x) is stands =
         let book = with_record b told.record_is in
         let y = received b x told in
@@ -351,7 +325,7 @@ resume_to planned b seats s t p (Still actor still) fits goes =
     (goes.0, goes.1, by_seat (slot seats p) refl (fits.seats_fit p))
   where
     by_seat : (x : Option SeatState) → slot seats p ≡ x → StandsFor s.counts.records p (slot s.world.processes p) x → StaysStill b b seats seats (slot seats p)
-    by_seat None is none = absurd (not_none (run.exit_refusal s p) NotHere (rw none refl) goes.2)
+    by_seat None is none = absurd (not_none (first_refusal (exit_refusals s p)) NotHere (rw none refl) goes.2)
     by_seat (Some x) is stands =
         subst (StaysStill b b seats seats) (sym is)
         (exit_same b s x p fits.leads stands.1 stands.2 ∙ goes.2, ap (is_ready_in b) stands.1 ∙ (ready_same b s p fits.leads ∙ goes.3), unchanged b seats)
@@ -362,7 +336,7 @@ resume_to planned b seats s t p (Refused actor refused refusal) fits goes =
     by_seat : (x : Option SeatState) → slot seats p ≡ x → StandsFor s.counts.records p (slot s.world.processes p) x → ResumeRuns b b seats seats p (Err refusal)
         (slot seats p)
     by_seat None is none =
-        let due : run.resume_refusal s p ≡ Some NotHere = rw none refl in
+        let due : first_refusal (resume_refusals s p) ≡ Some NotHere = rw none refl in
         subst (ResumeRuns b b seats seats p (Err refusal)) (sym is) (subst (λ (d : Option Refusal). IsDue d refusal) due goes.2.due, unchanged b seats)
     by_seat (Some x) is stands =
         subst (ResumeRuns b b seats seats p (Err refusal)) (sym is) (
@@ -396,7 +370,7 @@ exit_to planned b seats s t p (Ok told) fits goes = by_seat (slot seats p) refl 
   where
     by_seat : (x : Option SeatState) → slot seats p ≡ x → StandsFor s.counts.records p (slot s.world.processes p) x →
         RunsTo b seats t (script.Exit p) (Recorded told)
-    by_seat None is none = absurd (not_none (run.exit_refusal s p) NotHere (rw none refl) goes.0)
+    by_seat None is none = absurd (not_none (first_refusal (exit_refusals s p)) NotHere (rw none refl) goes.0)
     by_seat (Some x) is stands =
         let made = goes.1 in
         let book = with_record b told.record_is in
@@ -426,7 +400,7 @@ exit_to planned b seats s t p (Err refusal) fits goes =
     by_seat : (x : Option SeatState) → slot seats p ≡ x → StandsFor s.counts.records p (slot s.world.processes p) x → ExitRuns b b seats seats p (Err refusal)
         (slot seats p)
     by_seat None is none =
-        let due : run.exit_refusal s p ≡ Some NotHere = rw none refl in
+        let due : first_refusal (exit_refusals s p) ≡ Some NotHere = rw none refl in
         let same : Some NotHere ≡ Some refusal = sym due ∙ goes.0 in
         let it : refusal ≡ NotHere = cc in
         subst (ExitRuns b b seats seats p (Err refusal)) (sym is) (it, unchanged b seats)
@@ -439,15 +413,7 @@ exit_to planned b seats s t p (Err refusal) fits goes =
 
 -- what a book's house holds says nothing of where its records lead
 leads_housed : (b : BookState) (s : RunState) (house : Option (List Receipted)) → LeadsTo b s → LeadsTo (record b { house = house }) s
-leads_housed b s house leads = record {
-  limits = leads.limits;
-  world = leads.world;
-  records = leads.records;
-  bytes_in = leads.bytes_in;
-  bytes_out =
-      leads.bytes_out;
-  is_legal = leads.is_legal;
-}
+leads_housed b s house leads = record { run = leads.run; is_legal = leads.is_legal }
 
 pub records_all : (s : RunState) (rs : List Record) → (grown_by s rs).counts.records ≡ s.counts.records + length rs
 records_all s [] = omega arith
@@ -461,12 +427,12 @@ closing_to b seats s t told fits closed =
     let now = closing_records (world_now b) in
     let h = b.history in
     let book : BookState = record (with_records b rs) { house = None } in
-    let same : rs ≡ now = ap closing_records (sym leads.world) in
+    let same : rs ≡ now = ap (λ (x : RunState). closing_records x.world) leads.run in
     let house_is : b.house ≡ Some [] = fits.house ∙ ap house_of closed.was_open in
     let count : t.counts.records ≡ s.counts.records + length rs = ap (λ (x : RunState). x.counts.records) closed.adds.new_is ∙ records_all s rs in
     let all : LeadsTo (with_records b rs) t = subst (LeadsTo (with_records b rs)) (sym closed.adds.new_is) (leads_all b s rs leads closed.adds.is_legal) in
     let receipts : Some told.items ≡ told_more (length h) now b.house =
-    ap Some closed.adds.told ∙ (ap (λ (n : ℕ). Some (receipts_from n rs)) (sym leads.records) ∙
+    ap Some closed.adds.told ∙ (ap (λ (x : RunState). Some (receipts_from x.counts.records rs)) leads.run ∙
     (ap (λ (l : List Record). Some (receipts_from (length h) l)) same ∙ ap (told_more (length h) now) (sym house_is))) in
     let ends : Ends b book now (seat_of_house book told.items) =
     record {
@@ -485,13 +451,13 @@ closing_to b seats s t told fits closed =
       house = sym (ap house_of closed.closed);
       seats_fit = seats_stay s.world.processes t.world.processes s.counts.records t.counts.records seats fits.seats_fit closed.here (omega (arith, count));
     })
-    (refl, (ap (λ (w : World). w.closed) leads.world ∙ closed.was_open, ends), refl)
+    (refl, (ap (λ (x : RunState). x.world.closed) (sym leads.run) ∙ closed.was_open, ends), refl)
 
 pub closing_still : (b : BookState) (seats : Seats) (s : RunState) → FitsRun b seats s → s.world.closed ≡ true →
     RunsTo b seats s script.CloseRun (Still HOUSE script.CloseRun)
 closing_still b seats s fits is =
     runs_to b seats s script.CloseRun (Still HOUSE script.CloseRun) b seats fits
-    (refl, refl, ((ap (λ (w : World). w.closed) fits.leads.world ∙ is, refl), refl))
+    (refl, refl, ((ap (λ (x : RunState). x.world.closed) (sym fits.leads.run) ∙ is, refl), refl))
 
 -- an exit leaves a run open or closed
 pub exit_closed : StepPlansProcesses → (s t : RunState) (p : ℕ) (ran : Result Receipted Refusal) → ExitGoes s t p ran → t.world.closed ≡ s.world.closed

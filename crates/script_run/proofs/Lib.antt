@@ -1,6 +1,5 @@
 pub mod HereLemmas
 pub mod CallLemmas
-pub mod PlanLemmas
 pub mod RunLemmas
 pub mod SeatLemmas
 pub mod FitsLemmas

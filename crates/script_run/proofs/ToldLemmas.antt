@@ -5,8 +5,8 @@ use Rattle.call_types.specs.declared.act.ScriptAct.TheVariants as script
 use Rattle.call_types.specs.declared.call.Call.{Call}
 use Rattle.call_types.specs.declared.refusal.Refusal.{Refusal}
 use Rattle.record_book.specs.Seat.{Receipted}
-use Rattle.script_run.specs.RunState.{RunState}
-use Rattle.script_run.specs.ToldOf.{IsRecordOf, IsToldOf}
+use Rattle.record_book.specs.RunState.{RunState}
+use Rattle.script_run.specs.ToldOf.{IsToldOf}
 use Rattle.script_run.specs.Proved.Going.{JoinGoes, AttachGoes, ExitGoes, CallGoes, ResumeGoes, answer_of}
 use Rattle.script_run.specs.declared.told.ScriptAnswer.{ScriptAnswer}
 use Rattle.script_run.specs.declared.told.ScriptAnswer.TheVariants.{Recorded, Closed, Still, Refused}

@@ -1,26 +1,21 @@
 -- The books and seats that a run may stand for: they say what is told of its acts (own).
-use Rattle.std.specs.Prelude.{◌≡◌, ◌≤◌, ℕ, Bool, true, false, List, [], ◌∷◌, Option, None, Some, length, if◌then◌else◌}
+use Rattle.std.specs.Prelude.{◌≡◌, ◌≤◌, ℕ, Bool, true, false, List, [], ◌∷◌, Option, None, Some, if◌then◌else◌}
 use Rattle.call_types.specs.declared.act.ScriptAct.{ScriptAct}
 use Rattle.slots.specs.Slots.{slot}
 use Rattle.process_table.specs.declared.process.Process.{Process}
 use Rattle.process_table.specs.Processes.{is_here}
 use Rattle.posix_model.specs.History.{legal}
-use Rattle.posix_model.specs.Turns.{bytes_in, bytes_out}
 use Rattle.byte_ledger.specs.declared.tallies.Sums.{Sums}
 use Rattle.record_book.specs.Seat.{Receipted, SeatState}
-use Rattle.record_book.specs.Book.{BookState, world_now}
+use Rattle.record_book.specs.RunState.{RunState}
+use Rattle.record_book.specs.Book.{BookState, run_of}
 use Rattle.record_book.specs.Counting.{CountsOf}
-use Rattle.script_run.specs.RunState.{RunState}
 use Rattle.script_run.specs.Runs.{Seats, Tells, GoesOn}
 use Rattle.script_run.specs.declared.told.ScriptAnswer.{ScriptAnswer}
 
--- the records of a book are a run of the model, lead to where a run of a script is, and are what it counts
+-- the records of a book are a run of the model, and lead to where a run of a script is
 pub record LeadsTo (b : BookState) (s : RunState) : Type 0 where
-  pub limits : b.limits ≡ s.limits
-  pub world : world_now b ≡ s.world
-  pub records : length b.history ≡ s.counts.records
-  pub bytes_in : bytes_in b.limits.bounds b.history ≡ s.counts.bytes_in
-  pub bytes_out : bytes_out b.limits.bounds b.history ≡ s.counts.bytes_out
+  pub run : s ≡ run_of b
   pub is_legal : legal b.limits.bounds b.history
 
 -- the receipts of the house: none yet, until the closing gives them away

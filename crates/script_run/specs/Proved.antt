@@ -1,5 +1,3 @@
-pub mod Refusing
-pub mod Planned
 pub mod Inside
 pub mod Going
 pub mod Closing

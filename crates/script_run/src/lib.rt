@@ -8,8 +8,6 @@
 mod append;
 mod closing;
 mod opening;
-mod progress;
-mod refusals;
 pub mod run;
 mod running;
 pub mod told;

@@ -1,13 +1,16 @@
 //! The run of a script.
 
 ghost use Rattle.std.specs.Prelude.{◌≡◌, [], IfOk};
-ghost use Rattle.script_run.specs.RunState.{new_run};
+ghost use Rattle.record_book.specs.RunState.{new_run};
 ghost use Rattle.script_run.specs.Fits.{FitsRun, IsCounted, RunsFrom};
 ghost use Rattle.script_run.specs.ToldOf.{IsToldOf};
 ghost use Rattle.record_book.specs.Book.{new_book};
 ghost use Rattle.script_run.specs.Proved.Going.{answer_of};
 
-use crate::progress::Progress;
+use crate::append::append_closing;
+use crate::closing::end_orphans;
+use crate::opening::{run_attach, run_join};
+use crate::running::{run_call, run_exit, run_resume};
 use crate::told::{ScriptAnswer, Told};
 use byte_ledger::tallies::Sums;
 use call_types::act::{HOUSE, ScriptAct};
@@ -15,6 +18,7 @@ use call_types::limits::{Limits, PROCESSES_MAX};
 use call_types::refusal::Refusal;
 use posix_model::laws::processes_are_counted;
 use posix_model::pipe_laws::bytes_of_pipe;
+use record_book::progress::Progress;
 use std::alloc::{AllocError, Global};
 use std::marker::Model;
 use std::mem;
@@ -29,7 +33,7 @@ pub struct ScriptRun {
 }
 
 impl Model for ScriptRun {
-    ghost use Rattle.script_run.specs.RunState.{RunState};
+    ghost use Rattle.record_book.specs.RunState.{RunState};
 
     ghost Value = { RunState };
 
@@ -93,8 +97,8 @@ impl ScriptRun {
         self.progress.has_reserve();
         processes_are_counted();
         let mut told = mem::replace(&mut self.closing, Vec::new(alloc));
-        self.progress.end_orphans(&mut told);
-        told.push_reserved(self.progress.append_closing());
+        end_orphans(&mut self.progress, &mut told);
+        told.push_reserved(append_closing(&mut self.progress));
         ScriptAnswer::Closed(told)
     }
 
@@ -108,18 +112,19 @@ impl ScriptRun {
     {
         processes_are_counted();
         match act {
-            ScriptAct::Call { process, call } => self.progress.run_call(alloc, process, call),
+            ScriptAct::Call { process, call } => run_call(&mut self.progress, alloc, process, call),
             ScriptAct::Join => {
                 let actor = self.progress.next_pid();
-                told_of(actor, ScriptAct::Join, self.progress.run_join(alloc))
+                let ran = run_join(&mut self.progress, alloc);
+                told_of(actor, ScriptAct::Join, ran)
             }
             ScriptAct::Attach { process } => {
-                let ran = self.progress.run_attach(process);
+                let ran = run_attach(&mut self.progress, process);
                 told_of(process, ScriptAct::Attach { process }, ran)
             }
-            ScriptAct::Resume { process } => self.progress.run_resume(alloc, process),
+            ScriptAct::Resume { process } => run_resume(&mut self.progress, alloc, process),
             ScriptAct::Exit { process } => {
-                let ran = self.progress.run_exit(process);
+                let ran = run_exit(&mut self.progress, process);
                 told_of(process, ScriptAct::Exit { process }, ran)
             }
             ScriptAct::CloseRun => self.run_closing(alloc),

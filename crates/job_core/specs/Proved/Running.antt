@@ -7,7 +7,7 @@ use Rattle.script_text.specs.ReadingScripts.{script, followed}
 use Rattle.script_text.specs.ReadingResults.{IsReadAs, ScriptFails}
 use Rattle.script_text.specs.declared.fault.ScriptFault.{ScriptFault}
 use Rattle.record_book.specs.Book.{BookState}
-use Rattle.script_run.specs.RunState.{RunState}
+use Rattle.record_book.specs.RunState.{RunState}
 use Rattle.script_run.specs.Runs.{RunTells, Seats}
 use Rattle.script_run.specs.Fits.{FitsRun, RunsFrom}
 use Rattle.script_run.specs.declared.told.ScriptAnswer.{ScriptAnswer}

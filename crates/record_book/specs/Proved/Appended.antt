@@ -3,7 +3,7 @@ use Rattle.std.specs.Prelude.{◌≡◌, ◌≤◌}
 use Rattle.call_types.specs.declared.limits.TheConstants.{GIVEN_BYTES_MAX}
 use Rattle.posix_model.specs.Turns.{took, gave}
 use Rattle.record_book.specs.Book.{BookState, world_now}
-use Rattle.record_book.specs.declared.append.Appended.{Appended}
+use Rattle.record_book.specs.declared.journal.Appended.{Appended}
 
 -- its receipt is there twice, and the bytes are those that the record took and gave in the world before it
 pub record TellsMoved (old : BookState) (a : Appended) : Type 0 where

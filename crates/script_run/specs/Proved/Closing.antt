@@ -7,7 +7,7 @@ use Rattle.posix_model.specs.History.{legal_from}
 use Rattle.posix_model.specs.declared.world.World.{World}
 use Rattle.record_book.specs.Seat.{Receipted}
 use Rattle.record_book.specs.Exits.{closing_records, orphans_exits, receipts_from}
-use Rattle.script_run.specs.RunState.{RunState, grown}
+use Rattle.record_book.specs.RunState.{RunState, grown}
 
 -- a run with more records
 abbrev pub grown_by : RunState → List Record → RunState

@@ -8,9 +8,8 @@ use Rattle.call_types.specs.declared.call.Call.{Call}
 use Rattle.call_types.specs.declared.refusal.Refusal.{Refusal}
 use Rattle.posix_model.specs.Step.{outcome_of}
 use Rattle.record_book.specs.Seat.{Receipted}
-use Rattle.record_book.specs.Refusals.{IsDue}
-use Rattle.script_run.specs.RunState.{RunState, grown}
-use Rattle.script_run.specs.Proved.Refusing.{next_pid, is_ready_in, opening_refusal, exit_refusal, call_refusal, resume_refusal}
+use Rattle.record_book.specs.Refusals.{IsDue, call_refusals, exit_refusals, first_refusal, is_run_ready, opening_refusals, resume_refusals}
+use Rattle.record_book.specs.RunState.{RunState, grown, next_of}
 use Rattle.script_run.specs.declared.told.ScriptAnswer.{ScriptAnswer}
 use Rattle.script_run.specs.declared.told.ScriptAnswer.TheVariants.{Recorded, Still, Refused}
 
@@ -24,37 +23,37 @@ pub record Grows (old new : RunState) (actor : ℕ) (act : Act) (told : Receipte
 
 -- a join or an attach is recorded, or refused with nothing changed
 abbrev pub OpeningGoes : RunState → RunState → ℕ → Act → Result Receipted Refusal → Type 0
-OpeningGoes old new actor act (Ok told) = (opening_refusal old actor act ≡ None) × Grows old new actor act told
-OpeningGoes old new actor act (Err refusal) = IsDue (opening_refusal old actor act) refusal × (new ≡ old)
+OpeningGoes old new actor act (Ok told) = (first_refusal (opening_refusals old actor act) ≡ None) × Grows old new actor act told
+OpeningGoes old new actor act (Err refusal) = IsDue (first_refusal (opening_refusals old actor act)) refusal × (new ≡ old)
 
 abbrev pub JoinGoes : RunState → RunState → Result Receipted Refusal → Type 0
-JoinGoes old new ran = OpeningGoes old new (next_pid old) act.Join ran
+JoinGoes old new ran = OpeningGoes old new (next_of old) act.Join ran
 
 abbrev pub AttachGoes : RunState → RunState → ℕ → Result Receipted Refusal → Type 0
 AttachGoes old new process ran = OpeningGoes old new process act.Attach ran
 
 -- so is an exit, which no want of memory refuses
 abbrev pub ExitGoes : RunState → RunState → ℕ → Result Receipted Refusal → Type 0
-ExitGoes old new process (Ok told) = (exit_refusal old process ≡ None) × Grows old new process act.Exit told
-ExitGoes old new process (Err refusal) = (exit_refusal old process ≡ Some refusal) × (new ≡ old)
+ExitGoes old new process (Ok told) = (first_refusal (exit_refusals old process) ≡ None) × Grows old new process act.Exit told
+ExitGoes old new process (Err refusal) = (first_refusal (exit_refusals old process) ≡ Some refusal) × (new ≡ old)
 
 -- a call is told as recorded, or as refused with nothing changed
 abbrev pub CallGoes : RunState → RunState → ℕ → Call → ScriptAnswer → Type 0
-CallGoes old new process c (Recorded told) = (call_refusal old process c ≡ None) × Grows old new process (act.Call c) told
+CallGoes old new process c (Recorded told) = (first_refusal (call_refusals old process c) ≡ None) × Grows old new process (act.Call c) told
 CallGoes old new process c (Refused actor refused refusal) = (actor ≡ process) × (refused ≡ script.Call process c) × IsDue
-    (call_refusal old process c) refusal × (new ≡ old)
+    (first_refusal (call_refusals old process c)) refusal × (new ≡ old)
 CallGoes old new process c other = ⊥
 
 -- a resume is refused with nothing changed: it is due, and where its process would not be refused an exit, its call is ready
 pub record ResumeRefused (s : RunState) (process : ℕ) (refusal : Refusal) : Type 0 where
-  pub due : IsDue (resume_refusal s process) refusal
-  pub ready : exit_refusal s process ≡ None → is_ready_in s process ≡ true
+  pub due : IsDue (first_refusal (resume_refusals s process)) refusal
+  pub ready : first_refusal (exit_refusals s process) ≡ None → is_run_ready s process ≡ true
 
 -- a resume is recorded; or its process waits in no call that is ready; or it is refused
 abbrev pub ResumeGoes : RunState → RunState → ℕ → ScriptAnswer → Type 0
-ResumeGoes old new process (Recorded told) = (resume_refusal old process ≡ None) × (is_ready_in old process ≡ true) × Grows old new process act.Resume told
-ResumeGoes old new process (Still actor still) = (actor ≡ process) × (still ≡ script.Resume process) × (exit_refusal old process ≡ None) ×
-    (is_ready_in old process ≡ false) × (new ≡ old)
+ResumeGoes old new process (Recorded told) = (first_refusal (resume_refusals old process) ≡ None) × (is_run_ready old process ≡ true) × Grows old new process act.Resume told
+ResumeGoes old new process (Still actor still) = (actor ≡ process) × (still ≡ script.Resume process) × (first_refusal (exit_refusals old process) ≡ None) ×
+    (is_run_ready old process ≡ false) × (new ≡ old)
 ResumeGoes old new process (Refused actor refused refusal) = (actor ≡ process) × (refused ≡ script.Resume process) × ResumeRefused old process refusal ×
     (new ≡ old)
 ResumeGoes old new process other = ⊥

@@ -1,4 +1,6 @@
-use Rattle.std.proofs.Common.{◌≡◌, ◌∙◌, Some, refl, sym}
+use Rattle.std.proofs.Common.{◌≡◌, ◌∙◌, Some, refl, ap, sym}
+use Rattle.byte_ledger.specs.declared.tallies.Sums.{Sums}
+use Rattle.record_book.specs.RunState.{RunState}
 use Rattle.record_book.proofs.CountLemmas.{counts_closing, house_counts}
 use Rattle.record_book.proofs.OwnLemmas.{own_quiet}
 use Rattle.record_book.proofs.book.Book.record_closing.Goals as goal
@@ -20,7 +22,7 @@ returns g c =
       is_traced = shut.is_traced;
       history = shut.history;
       pid = refl;
-      seen = c.len.ensures;
+      seen = ap (λ (x : Sums). x.records) (c.sums.ensures ∙ ap (λ (s : RunState). s.counts) c.progress.ensures);
       receipts = shut.receipts_are;
       counts = house_counts c.self.inside.journal c.append_closing-receipts.new.self c.in-Some.shares c.count.new.shares c.append_closing-receipts.result.items
           c.self.inside.tallies (rw has at c.self.invariant) shut

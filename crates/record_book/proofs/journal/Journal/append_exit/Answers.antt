@@ -7,16 +7,14 @@ use Rattle.record_book.proofs.journal.Journal.append_exit.Goals as goal
 
 pub end_process-requires-clause-prepared : goal.end_process-requires-clause-prepared
 end_process-requires-clause-prepared c =
-    let there : is_some (slot c.self.inside.machine.world.processes c.args.process) ≡ true = rw c.self.invariant.world (rw (← c.self.view_is) at c.requires) in
-    rw c.self.invariant.exits (prepared_there c.self.inside.machine.world.processes c.args.process there)
+    let there : is_some (slot c.self.inside.progress.world.processes c.args.process) ≡ true = rw c.self.invariant.run (rw (← c.self.view_is) at c.requires) in
+    rw c.self.invariant.exits (prepared_there c.self.inside.progress.world.processes c.args.process there)
 
 pub invariant_of-self : goal.invariant_of-self
-invariant_of-self c = journal_ends c.self.inside _ c.args.process c.self.invariant (rw (← c.self.view_is) at c.is_exit_planned.ensures) (record {
+invariant_of-self c = journal_ends c.self.inside _ c.args.process c.self.invariant c.end_process.ensures.planned (record {
   records = c.end_process.ensures.history;
-  limits = refl;
-  world = c.end_process.ensures.world;
-  capacity = c.end_process.ensures.pipes;
+  progress = c.end_process.ensures.grows;
   exits = c.end_process.ensures.exits;
   closing = refl;
-  house = λ k less. room_less (live c.self.inside.machine.world.processes) k c.self.inside.house (omega (arith, less)) c.self.invariant.house;
+  house = λ k less. room_less (live c.self.inside.progress.world.processes) k c.self.inside.house (omega (arith, less)) c.self.invariant.house;
 })

@@ -1,5 +1,5 @@
 use Rattle.std.proofs.Common.{◌≡◌, ◌∙◌, false, [], ◌∷◌, ◌++◌, ap, sym, subst, arith}
-use Rattle.script_run.specs.RunState.{RunState}
+use Rattle.record_book.specs.RunState.{RunState}
 use Rattle.script_run.specs.Fits.{FitsRun}
 use Rattle.script_run.specs.Proved.Closing.{ClosesBy, OrphansEnd}
 use Rattle.script_run.proofs.ClosingLemmas.{closes_by, closes_limits}
@@ -18,12 +18,12 @@ end_orphans-requires c =
 pub returns-clause-tells : goal.returns-clause-tells
 returns-clause-tells c b seats fits =
     let s = c.self.inside.progress in
-    let t = c.append_closing.new.self in
+    let t = c.append_closing.new.progress in
     let exits = c.end_orphans.new.told.items in
     let open_now : s.world.closed ≡ false = sym c.is_closed.ensures ∙ c.if-is_closed.false in
-    let ends : OrphansEnd s c.end_orphans.new.self [] exits = rw (c.replace-told.ensures.value, c.self.invariant.none) at c.end_orphans.ensures.ends in
+    let ends : OrphansEnd s c.end_orphans.new.progress [] exits = rw (c.replace-told.ensures.value, c.self.invariant.none) at c.end_orphans.ensures.ends in
     let closes : ClosesBy s t (exits ++ c.append_closing.result ∷ []) =
-    closes_by c.processes_are_counted.ensures.planned s c.end_orphans.new.self t exits c.append_closing.result open_now ends c.append_closing.ensures.grows
+    closes_by c.processes_are_counted.ensures.planned s c.end_orphans.new.progress t exits c.append_closing.result open_now ends c.append_closing.ensures.grows
     c.append_closing.ensures.record_is in
     closing_to b seats s t c.push_reserved.new.self (subst (FitsRun b seats) (sym c.self.view_is) fits)
     (subst (ClosesBy s t) (sym c.push_reserved.ensures.items) closes)
@@ -31,11 +31,11 @@ returns-clause-tells c b seats fits =
 pub returns-clause-limits : goal.returns-clause-limits
 returns-clause-limits c =
     let s = c.self.inside.progress in
-    let t = c.append_closing.new.self in
+    let t = c.append_closing.new.progress in
     let exits = c.end_orphans.new.told.items in
     let open_now : s.world.closed ≡ false = sym c.is_closed.ensures ∙ c.if-is_closed.false in
-    let ends : OrphansEnd s c.end_orphans.new.self [] exits = rw (c.replace-told.ensures.value, c.self.invariant.none) at c.end_orphans.ensures.ends in
+    let ends : OrphansEnd s c.end_orphans.new.progress [] exits = rw (c.replace-told.ensures.value, c.self.invariant.none) at c.end_orphans.ensures.ends in
     let closes : ClosesBy s t (exits ++ c.append_closing.result ∷ []) =
-    closes_by c.processes_are_counted.ensures.planned s c.end_orphans.new.self t exits c.append_closing.result open_now ends c.append_closing.ensures.grows
+    closes_by c.processes_are_counted.ensures.planned s c.end_orphans.new.progress t exits c.append_closing.result open_now ends c.append_closing.ensures.grows
     c.append_closing.ensures.record_is in
     closes_limits s t (exits ++ c.append_closing.result ∷ []) closes ∙ ap (λ (x : RunState). x.limits) c.self.view_is

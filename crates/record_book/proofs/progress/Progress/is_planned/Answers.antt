@@ -1,7 +1,7 @@
 use Rattle.std.proofs.Common.{subst}
-use Rattle.script_run.specs.Proved.Inside.{IsRun}
-use Rattle.script_run.proofs.PlanLemmas.{plans}
-use Rattle.script_run.proofs.progress.Progress.is_planned.Goals as goal
+use Rattle.record_book.specs.Proved.Inside.{IsRun}
+use Rattle.record_book.proofs.PlanLemmas.{plans}
+use Rattle.record_book.proofs.progress.Progress.is_planned.Goals as goal
 
 pub returns : goal.returns
 returns c =

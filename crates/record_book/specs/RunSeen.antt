@@ -1,6 +1,6 @@
 -- What contracts see of how far a run has come.
-use Rattle.script_run.specs.RunState.{RunState}
-use Rattle.script_run.specs.declared.progress.Progress.TheInside.{Inside}
+use Rattle.record_book.specs.RunState.{RunState}
+use Rattle.record_book.specs.declared.progress.Progress.TheInside.{Inside}
 
 -- what contracts see of it, and of the run that holds it
 abbrev pub state_of : Inside → RunState

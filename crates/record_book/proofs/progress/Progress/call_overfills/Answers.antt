@@ -6,9 +6,9 @@ use Rattle.posix_model.specs.History.{after_act}
 use Rattle.posix_model.specs.Proved.Sound.{adds}
 use Rattle.posix_model.specs.Reserve.{exits_left}
 use Rattle.posix_model.specs.declared.world.World.{World}
-use Rattle.script_run.specs.RunState.{RunState}
-use Rattle.script_run.proofs.PlanLemmas.{call_exits}
-use Rattle.script_run.proofs.progress.Progress.call_overfills.Goals as goal
+use Rattle.record_book.specs.RunState.{RunState}
+use Rattle.record_book.proofs.PlanLemmas.{call_exits}
+use Rattle.record_book.proofs.progress.Progress.call_overfills.Goals as goal
 
 pub returns : goal.returns
 returns c =

@@ -3,11 +3,11 @@ use Rattle.std.proofs.Common.{◌≡◌, ◌+◌, ◌<◌, length, vec_len, vec_
 use Rattle.slots.specs.Slots.{live}
 use Rattle.record_book.proofs.ExitLemmas.{exits_ahead}
 use Rattle.script_run.specs.Proved.Closing.{OrphansSoFar}
-use Rattle.script_run.proofs.progress.Progress.end_orphans.Given as goal
+use Rattle.script_run.proofs.closing.end_orphans.Given as goal
 
 abbrev pub invariant-loop-process : goal.invariant-loop-process
 invariant-loop-process l = record {
-  so_far : OrphansSoFar l.fn.self l.self l.fn.told.items l.told.items (exits_ahead l.process l.self.world.processes);
-  room : vec_len l.told + live l.self.world.processes < vec_capacity l.told;
-  numbers : length l.self.world.processes ≡ l.process-end;
+  so_far : OrphansSoFar l.fn.progress l.progress l.fn.told.items l.told.items (exits_ahead l.process l.progress.world.processes);
+  room : vec_len l.told + live l.progress.world.processes < vec_capacity l.told;
+  numbers : length l.progress.world.processes ≡ l.process-end;
 }
