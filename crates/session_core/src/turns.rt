@@ -56,6 +56,7 @@ fn put_given_up<W: Write, G: Gate>(output: &mut Output<W, G>, refusal: Refusal) 
 }
 
 /// Takes up the first request of a session. A process that is opened is noted at once.
+#[inline(never)]
 fn take_opening<Rt: Wait, W: Write, G: Gate, L: Run, K: KernelOf<L>>(
     rt: &Rt,
     note: &Note,
@@ -177,6 +178,7 @@ pub(crate) fn wait_once<Rt: Wait, W: Write, G: Gate, L: Run, K: KernelOf<L>>(
 }
 
 /// Takes up a call of the session's process. It waits for no other process.
+#[inline(always)]
 fn take_call<Rt: Wait, W: Write, G: Gate, L: Run, K: KernelOf<L>>(
     rt: &Rt,
     output: &mut Output<W, G>,
@@ -212,6 +214,7 @@ fn take_call<Rt: Wait, W: Write, G: Gate, L: Run, K: KernelOf<L>>(
 }
 
 /// Takes up a request at this stage of a session.
+#[inline(always)]
 fn take_up<Rt: Wait, W: Write, G: Gate, L: Run, K: KernelOf<L>>(
     rt: &Rt,
     note: &Note,
@@ -250,6 +253,7 @@ fn take_up<Rt: Wait, W: Write, G: Gate, L: Run, K: KernelOf<L>>(
 }
 
 /// Takes up a request at this stage of a session. What was gathered is written first, if it is much.
+#[inline(always)]
 pub(crate) fn take_next<Rt: Wait, W: Write, G: Gate, L: Run, K: KernelOf<L>>(
     rt: &Rt,
     note: &Note,
