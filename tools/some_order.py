@@ -574,12 +574,13 @@ def early_opens(compared: Compared) -> list[Line]:
 
 
 def is_early(compared: Compared, line: Line, ends: Sequence[Line]) -> bool:
-    """Whether an open of a FIFO is one of these, where all opens of it are known."""
+    """Whether an open of a FIFO is one of these, where all opens of it are known. A program that does not load the shim
+    may have opened the other end where no line tells of it."""
     mode, *flags = line.act.split(" ")[-1].split(",")
     if mode not in OTHER_ENDS or "nonblock" in flags or not line.outcome.isdigit():
         return False
     others = [it for it in ends if it.act.split(" ")[-1].split(",")[0] in OTHER_ENDS[mode]]
-    return all(begun_at(it) > compared.handlers.places[id(line)] for it in others)
+    return bool(others) and all(begun_at(it) > compared.handlers.places[id(line)] for it in others)
 
 
 def none_for(compared: Compared) -> Ordered:

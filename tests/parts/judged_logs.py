@@ -1077,8 +1077,24 @@ def order_cases(program: str) -> Iterator[Case]:
     yield "stdio on what is no output", blames_outputs
     yield "a child that was kept", tells_kept
     yield "who comes first where no answer differs", names_first
+    for began, other, status in ((0, "r", 0), (20, "r", 0), (90, "r", 1), (90, "w", 0), (90, "r,nonblock", 1)):
+        name = f"an open of a FIFO, and one by {other} that began at {began}"
+        yield name, partial(is_opened_early, began, other, status)
     yield "an answer without a cause after one that has one", first_without
     yield "what a run stands still at", stands_still
+
+
+def is_opened_early(began: int, other: str, status: int) -> None:
+    """That an open of one end of a FIFO came back before one of the other end began is a difference, and else none."""
+    trace = "0 p0 join = 0; 1 p0 mkfifo f = ok; 2 p0 fork = 1; 3 p1 attach = ok; "
+    trace += f"4 p1 open f {other} = 0; 5 p0 open f w = 0"
+    own = ["-@0 p0 mkfifo f = ok", "-@21 p0 fork = 1", "-@39 p0 open f w = 0"]
+    system = as_bytes([*own, f"-@{began} p1 open f {other} = 0"])
+    fdref = as_bytes(logged(lines_of(trace)))
+    verdict = judge.Verdict(judge.Both(WELL, WELL, system, fdref, trace_of(lines_of(trace))), "legal 6 rest 0")
+    told = ["system: p0 open f w: has come back before another one began to open the other end"]
+    same(told if status == 1 else [], verdict.signals)
+    same(status, verdict.status())
 
 
 def tells_hidden() -> None:
