@@ -51,7 +51,8 @@ pub record ResumeRefused (s : RunState) (process : ℕ) (refusal : Refusal) : Ty
 
 -- a resume is recorded; or its process waits in no call that is ready; or it is refused
 abbrev pub ResumeGoes : RunState → RunState → ℕ → ScriptAnswer → Type 0
-ResumeGoes old new process (Recorded told) = (first_refusal (resume_refusals old process) ≡ None) × (is_run_ready old process ≡ true) × Grows old new process act.Resume told
+ResumeGoes old new process (Recorded told) = (first_refusal (resume_refusals old process) ≡ None) × (is_run_ready old process ≡ true) × Grows old new process
+    act.Resume told
 ResumeGoes old new process (Still actor still) = (actor ≡ process) × (still ≡ script.Resume process) × (first_refusal (exit_refusals old process) ≡ None) ×
     (is_run_ready old process ≡ false) × (new ≡ old)
 ResumeGoes old new process (Refused actor refused refusal) = (actor ≡ process) × (refused ≡ script.Resume process) × ResumeRefused old process refusal ×

@@ -7,7 +7,8 @@ pub invariant_of-self-in-Exit : goal.invariant_of-self-in-Exit
 invariant_of-self-in-Exit c = record {
   none = c.self-in-Exit.invariant.none;
   room = λ stays_open. c.self-in-Exit.invariant.room
-      (sym (exit_closed c.processes_are_counted.ensures.planned c.self-in-Exit.inside.progress c.run_exit-ran.new.progress c.in-Exit.process c.run_exit-ran.result
+      (sym (exit_closed c.processes_are_counted.ensures.planned c.self-in-Exit.inside.progress c.run_exit-ran.new.progress c.in-Exit.process
+      c.run_exit-ran.result
       c.run_exit-ran.ensures) ∙ stays_open);
 }
 
@@ -38,6 +39,7 @@ returns-in-Resume-clause-tells c b seats fits =
 
 pub returns-in-Exit-clause-tells : goal.returns-in-Exit-clause-tells
 returns-in-Exit-clause-tells c b seats fits =
-    rw (c.in-Exit.is, c.told_of-in-Exit.ensures) (exit_to c.processes_are_counted.ensures.planned b seats c.self-in-Exit.inside.progress c.run_exit-ran.new.progress
+    rw (c.in-Exit.is, c.told_of-in-Exit.ensures) (exit_to c.processes_are_counted.ensures.planned b seats c.self-in-Exit.inside.progress
+    c.run_exit-ran.new.progress
     c.in-Exit.process c.run_exit-ran.result
     (subst (FitsRun b seats) (sym c.self-in-Exit.view_is) fits) c.run_exit-ran.ensures)
