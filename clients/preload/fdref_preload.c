@@ -62,8 +62,8 @@
    Numbers are those of a native run. What is open at the start, and each file that the kernel opens for a call of this
    library, is *real*: it has the same number in the kernel, and in fdref a placeholder, which is a file without a name.
    Calls with these are made by the kernel, and not logged. In the kernel all other numbers below 32 are taken, so one
-   from 32 on is what the C library made by other calls, as fopen and socket, and goes past fdref while it is open.
-   OPEN_MAX is 32: dup2 to 32 or more is EBADF.
+   from 32 on is what the C library made by other calls, as fopen and socket, and goes past fdref. OPEN_MAX is 32: dup2
+   to 32 or more is EBADF.
 
    What is no single call of fdref:
      - A transfer of more than 65,536 bytes is made, and logged, in pieces of that size until one is short; a read of a

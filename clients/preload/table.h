@@ -891,16 +891,13 @@ static enum way way_of_ours(void)
     return how == NATIVE ? NOTE : ASK;
 }
 
-/* The way of a call with a descriptor. In a native run the kernel knows best which are open. A number that is too high
-   for fdref is fdref's to refuse where none is open by it. */
+/* The way of a call with a descriptor. In a native run the kernel knows best which are open. */
 static enum way way_of(int fd)
 {
     int error = errno;
     prepare();
-    if (is_off() || is_behind || (fd >= NUMBERS && is_open_in_kernel(fd)))
+    if (is_off() || is_behind || fd >= NUMBERS)
         return PASS;
-    if (fd >= NUMBERS)
-        return way_of_ours();
     if (how == NATIVE && fd >= 0 && slots[fd].held != OURS)
         slots[fd].held = is_open_in_kernel(fd) ? REAL : FREE;
     errno = error;

@@ -168,13 +168,6 @@ static void take_few(void)
     read(ends[0], bytes, 2);
 }
 
-/* No such number can be open. */
-static void read_high(void)
-{
-    read(99, bytes, 1);
-    write(ends[1], "x", 1);
-}
-
 /* Asks which file each end of two pipes is, and of a copy; the file of a pipe that is closed may come again. */
 static void ask_files(void)
 {
@@ -399,7 +392,6 @@ int main(int count, char **words)
         {"cloexec-exec", run_with_flags}, {"asks", ask_flags},
         {"ino-apart", ask_files},       {"ino-same", ask_files},
         {"fifo-early", open_fifo},
-        {"high-read", read_high},
         {"access-refused", ask},        {"read-beyond", take_few},
         {"cloexec-thread", keep_flags_after_thread},
         {"restart-lost", restart},      {"never-beside", read_beside},

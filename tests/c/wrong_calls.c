@@ -32,7 +32,6 @@
    cloexec-thread  F_GETFD gives 0
    ino-apart       fstat tells another st_ino of each descriptor
    ino-same        fstat tells the same st_ino of all
-   high-read       a read of a descriptor that is not open gives the end
    fifo-early      an open of a FIFO to write waits for nobody
    restart-lost    sigaction sets no SA_RESTART
    never-beside    a read never comes back
@@ -74,8 +73,6 @@ ssize_t read(int fd, void *to, size_t count)
         sigprocmask(SIG_BLOCK, &all, NULL);
     if (is_wrong("read-crashes"))
         raise(SIGSEGV);
-    if (is_wrong("high-read") && syscall(SYS_fcntl, fd, F_GETFD) < 0)
-        return 0;
     while (is_wrong("never-back") || is_wrong("never-beside"))
         pause();
     ssize_t done = is_wrong("early-signal") ? -1 : syscall(SYS_read, fd, to, count);

@@ -753,7 +753,6 @@ WRONGED = {
     "ino-apart": f"{OF_SYSTEM}p0 fstat: tells two files where there is one pipe",
     "ino-same": f"{OF_SYSTEM}p0 fstat: tells one file where there are two pipes",
     "fifo-early": f"{OF_SYSTEM}p0 open f w: has come back before another one began to open the other end",
-    "high-read": "system: p0 read 99 1 = x",
     "restart-lost": f"{OF_SYSTEM}p0 sigaction: has set SA_RESTART otherwise than it was asked for",
     "never-beside": f"{DIFFERS}p0 read 3 1 has not come back on the system, which was killed in it",
     "end-hangs": f"{DIFFERS}p0 read 3 1 has not come back on the system, which was killed in it",
