@@ -756,7 +756,7 @@ WRONGED = {
     "restart-lost": f"{OF_SYSTEM}p0 sigaction: has set SA_RESTART otherwise than it was asked for",
     "never-beside": f"{DIFFERS}p0 read 3 1 has not come back on the system, which was killed in it",
     "end-hangs": f"{DIFFERS}p0 read 3 1 has not come back on the system, which was killed in it",
-    "own-beside": "system: p1 read 5 1 = x79",
+    "own-beside": "no order of these calls gives all answers of the system",
     "read-crashes": f"{DIFFERS}p0 read 3 2 has not come back on the system, where signal 11 (SIGSEGV) ended it",
     "cloexec-thread": "1 answer about FD_CLOEXEC differs from what was set: system: p0 fcntl F_GETFD 3 = 0",
     # a whence that there is not is told as an offset below 0
