@@ -63,8 +63,8 @@ WALKS = (
         "session_core/src/serve.rt",
         "serve",
         {"Call": "Write", "Act": "Call", "Request": "Call", "FileEdit": "Bytes"},
-        Most(675, 117, 29),
-        "pump pump_on feed push_all end_of_piece attend take_ring take_next take_call call start wake_stirred "
+        Most(675, 117, 28),
+        "pump pump_on feed push_all end_of_piece attend take_ready take_calls take_at call_at call start wake_stirred "
         "put_recorded encode_recorded send_ready flush wait_out wait_once finish close_session hang_up",
     ),
 )

@@ -6,8 +6,10 @@ ghost use Rattle.call_types.specs.declared.act.Record.{Record};
 ghost use Rattle.call_types.specs.declared.request.Request.{Request};
 ghost use Rattle.run_history.specs.Fronts.{Grows, Since};
 ghost use Rattle.session_core.specs.Proved.Losing.{IsToldOf, is_opening, ready_process};
-ghost use Rattle.session_core.specs.Proved.Desk.{EndsOn, LeftBy, SentIfReady, StandsBy, StandsOn, attended_by};
+ghost use Rattle.session_core.specs.Proved.Desk.{EndsOn, LeftBy, SentIfReady, StandsBy, StandsOn, TurnsOn, attended_by};
+ghost use Rattle.session_core.specs.Proved.Turns.{turn_of};
 ghost use Rattle.session_core.specs.Proved.Saying.{IsReadingEnd, OverSaid};
+ghost use Rattle.session_core.specs.declared.stage.Stage.TheVariants as stages;
 ghost use Rattle.session_core.specs.declared.stage.Standing.TheVariants as standings;
 
 use crate::closing::close_session;
@@ -16,9 +18,9 @@ use crate::gate::Gate;
 use crate::note::Note;
 use crate::output::Output;
 use crate::stage::{
-    LeaveCause, LeftOf, Over, OverOf, Stage, StageOf, Standing, StandingOf, TurnOf,
+    Called, LeaveCause, LeftOf, Over, OverOf, Stage, StageOf, Standing, StandingOf, TurnOf,
 };
-use crate::turns::{take_next, wait_once};
+use crate::turns::{take_at, take_first, turn_of, wait_once};
 use call_types::request::Request;
 use rtrb::Consumer;
 use run_history::front::Front;
@@ -111,35 +113,34 @@ fn stand<Rt: Wait, W: Write + Connection, G: Gate, L: Run, K: KernelOf<L>>(
     }
 }
 
-/// Takes up what the ring holds, until it is empty, a call waits or the session is over.
-fn take_ring<Rt: Wait, W: Write + Connection, G: Gate, L: Run, K: KernelOf<L>>(
+/// Takes up what the ring holds at the seat of a session, until it is empty, a call waits or the session is over. The seat
+/// is lent meanwhile, so that no request moves it.
+fn take_calls<Rt: Wait, W: Write + Connection, G: Gate, L: Run, K: KernelOf<L>>(
     rt: &Rt,
-    note: &Note,
     kernel: &K,
     front: &mut Front<L>,
     consumer: &mut Consumer<Request>,
     output: &mut Output<W, G>,
-    stage: StageOf<L>,
-) -> StandingOf<L>
+    seat: &mut RunSeat<L>,
+) -> Called
     ensures ring { SameConsumer consumer.old consumer.new }
-    ensures stands { StandsOn front.new K.says W.was_shut (received consumer.old) output.old (standings.Ready stage) (received consumer.new) output.new result }
+    ensures turns { TurnsOn front.new K.says (received consumer.old) output.old (stages.Ready seat.old) (received consumer.new) output.new (turn_of seat.new result) }
     ensures grows { Grows front.old front.new }
 {
-    let mut stage = stage;
     for _ in rt.forever() {
         let request = match consumer.pop() {
             Ok(request) => request,
-            Err(_) => return Standing::Ready(stage),
+            Err(_) => return Called::Goes,
         };
-        match take_next(rt, note, output, kernel, front, stage, request) {
-            Standing::Ready(after) => stage = after,
-            turn => return stand(rt, output, kernel, front, turn),
+        match take_at(rt, output, kernel, front, seat, request) {
+            Called::Goes => {}
+            called => return called,
         }
     }
     unreachable!()
 }
 
-/// Takes up what the ring holds, if a request may be taken up.
+/// Takes up what the ring holds, if a request may be taken up: until it is empty, a call waits or the session is over.
 pub(crate) fn take_ready<Rt: Wait, W: Write + Connection, G: Gate, L: Run, K: KernelOf<L>>(
     rt: &Rt,
     note: &Note,
@@ -153,10 +154,26 @@ pub(crate) fn take_ready<Rt: Wait, W: Write + Connection, G: Gate, L: Run, K: Ke
     ensures stands { StandsOn front.new K.says W.was_shut (received consumer.old) output.old standing (received consumer.new) output.new result }
     ensures grows { Grows front.old front.new }
 {
-    match standing {
-        Standing::Ready(stage) => take_ring(rt, note, kernel, front, consumer, output, stage),
-        other => other,
+    let mut standing = standing;
+    for _ in rt.forever() {
+        standing = match standing {
+            Standing::Ready(Stage::Ready(seat)) => {
+                let mut seat = seat;
+                let called = take_calls(rt, kernel, front, consumer, output, &mut seat);
+                return stand(rt, output, kernel, front, turn_of(seat, called));
+            }
+            Standing::Ready(Stage::Opening(admission)) => {
+                let request = match consumer.pop() {
+                    Ok(request) => request,
+                    Err(_) => return Standing::Ready(Stage::Opening(admission)),
+                };
+                let turn = take_first(rt, note, output, kernel, front, admission, request);
+                stand(rt, output, kernel, front, turn)
+            }
+            other => return other,
+        };
     }
+    unreachable!()
 }
 
 /// Writes the answers of a session, if a request may be taken up.
@@ -232,16 +249,6 @@ pub(crate) fn tell_lost<Rt: Wait, L: Run, K: KernelOf<L>>(
     }
 }
 
-/// Whether no process is opened yet.
-fn is_opening<S, A>(stage: &Stage<S, A>) -> bool
-    ensures { result ≡ is_opening stage.now }
-{
-    match stage {
-        Stage::Opening(_) => true,
-        Stage::Ready(_) => false,
-    }
-}
-
 /// The process of a session at which a request may be taken up, if there is one.
 fn ready_process<L: Run>(standing: &StandingOf<L>) -> Option<u32>
     ensures { result ≡ ready_process standing.now }
@@ -266,16 +273,22 @@ fn take_late<Rt: Wait, W: Write + Connection, G: Gate, L: Run, K: KernelOf<L>>(
     ensures told { is_opening stage ≡ true → IsToldOf K.marks (ready_process result.0) result.1 }
     ensures grows { Grows front.old front.new }
 {
-    let is_opening = is_opening(&stage);
-    let turn = take_next(rt, note, output, kernel, front, stage, request);
-    let standing = stand(rt, output, kernel, front, turn);
-    let opened = if is_opening {
-        ready_process(&standing)
-    } else {
-        None
-    };
-    let told = tell_lost(rt, kernel, opened);
-    (standing, told)
+    match stage {
+        Stage::Ready(seat) => {
+            let mut seat = seat;
+            let called = take_at(rt, output, kernel, front, &mut seat, request);
+            (
+                stand(rt, output, kernel, front, turn_of(seat, called)),
+                None,
+            )
+        }
+        Stage::Opening(admission) => {
+            let turn = take_first(rt, note, output, kernel, front, admission, request);
+            let standing = stand(rt, output, kernel, front, turn);
+            let told = tell_lost(rt, kernel, ready_process(&standing));
+            (standing, told)
+        }
+    }
 }
 
 /// Answers the `count` requests that are still in the ring, once both its ends are in one thread. Then it closes the

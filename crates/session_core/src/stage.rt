@@ -49,6 +49,23 @@ pub(crate) enum Over<S, P, A> {
     Foreign(P),
 }
 
+/// What came of a request at the seat of a session.
+#[derive(Drop)]
+pub(crate) enum Called {
+    /// It is answered, and the session goes on.
+    Goes,
+    /// It is a call that waits.
+    Waits,
+    /// Memory ran out for the answer of a call that was refused.
+    NoMemory,
+    /// It is no call.
+    Malformed,
+    /// The writer had failed before it was taken up.
+    Unwritten,
+    /// Memory ran out for the answer of this receipt.
+    Untold(Receipt),
+}
+
 /// A session that is left: its spent seat, of the kind `P`, or its admission, of the kind `A`; its end; and, if its last answer is not
 /// written, the receipt of that answer.
 #[derive(Drop)]

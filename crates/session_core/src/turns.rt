@@ -4,7 +4,7 @@ ghost use Rattle.std.specs.Prelude.{◌≡◌, ◌∷◌, [], OnOk, OnErr};
 ghost use Rattle.call_types.specs.declared.request.Request.TheVariants as request;
 ghost use Rattle.run_history.specs.Fronts.{Grows, Since};
 ghost use Rattle.session_core.specs.declared.stage.Stage.TheVariants as stage;
-ghost use Rattle.session_core.specs.Proved.Turns.{TakesUp, PutsFirst, PutsGivenUp, IsOne, WaitsOnce, GivesUp, TellsWhy, TurnSays, WaitSays, goes_on};
+ghost use Rattle.session_core.specs.Proved.Turns.{TakesUp, PutsFirst, PutsGivenUp, IsOne, WaitsOnce, GivesUp, TellsWhy, TurnSays, WaitSays, goes_on, turn_of};
 ghost use Rattle.system_lock.specs.Kernel.{AsksForASeat, IsWanting, IsWhyFinished, FinishesBy, SaysEnded, itself};
 ghost use Rattle.session_core.specs.Proved.Saying.{TurnSaid};
 ghost use Rattle.session_core.specs.Refusals.{RefusalSaid};
@@ -12,7 +12,7 @@ ghost use Rattle.session_core.specs.Refusals.{RefusalSaid};
 use crate::gate::Gate;
 use crate::note::Note;
 use crate::output::Output;
-use crate::stage::{LeaveCause, Over, Stage, StageOf, Standing, TurnOf};
+use crate::stage::{Called, LeaveCause, Over, Stage, Standing, TurnOf};
 use call_types::call::Call;
 use call_types::outcome::Outcome;
 use call_types::refusal::Refusal;
@@ -55,8 +55,7 @@ fn put_given_up<W: Write, G: Gate>(output: &mut Output<W, G>, refusal: Refusal) 
     }
 }
 
-/// Takes up the first request of a session. A process that is opened is noted at once.
-#[inline(never)]
+/// Takes up an opening. A process that is opened is noted at once.
 fn take_opening<Rt: Wait, W: Write, G: Gate, L: Run, K: KernelOf<L>>(
     rt: &Rt,
     note: &Note,
@@ -177,63 +176,102 @@ pub(crate) fn wait_once<Rt: Wait, W: Write, G: Gate, L: Run, K: KernelOf<L>>(
     }
 }
 
-/// Takes up a call of the session's process. It waits for no other process.
+/// Takes up a call of the session's process, at its seat. It waits for no other process.
 #[inline(always)]
-fn take_call<Rt: Wait, W: Write, G: Gate, L: Run, K: KernelOf<L>>(
+fn call_at<Rt: Wait, W: Write, G: Gate, L: Run, K: KernelOf<L>>(
     rt: &Rt,
     output: &mut Output<W, G>,
     kernel: &K,
     front: &mut Front<L>,
-    seat: RunSeat<L>,
+    seat: &mut RunSeat<L>,
     call: Call,
-) -> TurnOf<L>
-    ensures takes { TakesUp (stage.Ready seat) (request.Call call) output.old output.new result }
-    ensures said { Since front.new (λ h. TurnSaid (K.says h) result) }
-    ensures refusals { Since front.new (λ h. TurnSays (RefusalSaid (K.says h)) (stage.Ready seat) (request.Call call ∷ []) output.old output.new) }
+) -> Called
+    ensures takes { TakesUp (stage.Ready seat.old) (request.Call call) output.old output.new (turn_of seat.new result) }
+    ensures said { Since front.new (λ h. TurnSaid (K.says h) (turn_of seat.new result)) }
+    ensures refusals { Since front.new (λ h. TurnSays (RefusalSaid (K.says h)) (stage.Ready seat.old) (request.Call call ∷ []) output.old output.new) }
     ensures grows { Grows front.old front.new }
 {
-    let mut seat = seat;
-    let receipt = match kernel.call(rt, front, &mut seat, call) {
+    let receipt = match kernel.call(rt, front, seat, call) {
         Ok(receipt) => receipt,
         Err(refusal) => {
             return match output.put_refused(refusal) {
-                Ok(()) => Standing::Ready(Stage::Ready(seat)),
-                Err(_) => Standing::Over(Over::Leaves {
-                    stage: Stage::Ready(seat),
-                    why: LeaveCause::NoMemory,
-                }),
+                Ok(()) => Called::Goes,
+                Err(_) => Called::NoMemory,
             };
         }
     };
     let waits = goes_on(&receipt.record().outcome);
     match output.put_recorded(receipt) {
-        Ok(()) if waits => Standing::Waits(seat),
-        Ok(()) => Standing::Ready(Stage::Ready(seat)),
-        Err(receipt) => Standing::Over(Over::Untold { seat, receipt }),
+        Ok(()) if waits => Called::Waits,
+        Ok(()) => Called::Goes,
+        Err(receipt) => Called::Untold(receipt),
     }
 }
 
-/// Takes up a request at this stage of a session.
+/// Takes up a request at the seat of a session. What was gathered is written first, if it is much.
 #[inline(always)]
-fn take_up<Rt: Wait, W: Write, G: Gate, L: Run, K: KernelOf<L>>(
+pub(crate) fn take_at<Rt: Wait, W: Write, G: Gate, L: Run, K: KernelOf<L>>(
+    rt: &Rt,
+    output: &mut Output<W, G>,
+    kernel: &K,
+    front: &mut Front<L>,
+    seat: &mut RunSeat<L>,
+    request: Request,
+) -> Called
+    ensures takes { TakesUp (stage.Ready seat.old) request output.old output.new (turn_of seat.new result) }
+    ensures said { Since front.new (λ h. TurnSaid (K.says h) (turn_of seat.new result)) }
+    ensures refusals { Since front.new (λ h. TurnSays (RefusalSaid (K.says h)) (stage.Ready seat.old) (request ∷ []) output.old output.new) }
+    ensures grows { Grows front.old front.new }
+{
+    match output.flush_much() {
+        Ok(()) => {}
+        Err(_) => return Called::Unwritten,
+    }
+    match request {
+        Request::Call(call) => call_at(rt, output, kernel, front, seat, call),
+        _ => Called::Malformed,
+    }
+}
+
+/// Where a session stands, once this came of a request at its seat.
+#[inline(never)]
+pub(crate) fn turn_of<L: Run>(seat: RunSeat<L>, called: Called) -> TurnOf<L>
+    ensures { result ≡ turn_of seat called }
+{
+    match called {
+        Called::Goes => Standing::Ready(Stage::Ready(seat)),
+        Called::Waits => Standing::Waits(seat),
+        Called::NoMemory => Standing::Over(Over::Leaves {
+            stage: Stage::Ready(seat),
+            why: LeaveCause::NoMemory,
+        }),
+        Called::Malformed => Standing::Over(Over::Leaves {
+            stage: Stage::Ready(seat),
+            why: LeaveCause::Malformed,
+        }),
+        Called::Unwritten => Standing::Over(Over::Unwritten(Stage::Ready(seat))),
+        Called::Untold(receipt) => Standing::Over(Over::Untold { seat, receipt }),
+    }
+}
+
+/// Takes up the first request of a session, if it asks for a seat.
+pub(crate) fn take_first<Rt: Wait, W: Write, G: Gate, L: Run, K: KernelOf<L>>(
     rt: &Rt,
     note: &Note,
     output: &mut Output<W, G>,
     kernel: &K,
     front: &mut Front<L>,
-    stage: StageOf<L>,
+    admission: AdmissionTo<L>,
     request: Request,
 ) -> TurnOf<L>
-    ensures takes { TakesUp stage request output.old output.new result }
+    ensures takes { TakesUp (stage.Opening admission) request output.old output.new result }
     ensures said { Since front.new (λ h. TurnSaid (K.says h) result) }
-    ensures refusals { Since front.new (λ h. TurnSays (RefusalSaid (K.says h)) stage (request ∷ []) output.old output.new) }
+    ensures refusals { Since front.new (λ h. TurnSays (RefusalSaid (K.says h)) (stage.Opening admission) (request ∷ []) output.old output.new) }
     ensures grows { Grows front.old front.new }
 {
-    match (stage, request) {
-        (Stage::Opening(admission), Request::Join) => {
-            take_opening(rt, note, output, kernel, front, admission, Request::Join)
-        }
-        (Stage::Opening(admission), Request::Attach { process }) => take_opening(
+    match request {
+        Request::Join => take_opening(rt, note, output, kernel, front, admission, Request::Join),
+        Request::Attach { process } => take_opening(
             rt,
             note,
             output,
@@ -242,34 +280,9 @@ fn take_up<Rt: Wait, W: Write, G: Gate, L: Run, K: KernelOf<L>>(
             admission,
             Request::Attach { process },
         ),
-        (Stage::Ready(seat), Request::Call(call)) => take_call(
-            rt, output, kernel, front, seat, call,
-        ),
-        (stage, _) => Standing::Over(Over::Leaves {
-            stage,
+        Request::Call(_call) => Standing::Over(Over::Leaves {
+            stage: Stage::Opening(admission),
             why: LeaveCause::Malformed,
         }),
-    }
-}
-
-/// Takes up a request at this stage of a session. What was gathered is written first, if it is much.
-#[inline(always)]
-pub(crate) fn take_next<Rt: Wait, W: Write, G: Gate, L: Run, K: KernelOf<L>>(
-    rt: &Rt,
-    note: &Note,
-    output: &mut Output<W, G>,
-    kernel: &K,
-    front: &mut Front<L>,
-    stage: StageOf<L>,
-    request: Request,
-) -> TurnOf<L>
-    ensures takes { TakesUp stage request output.old output.new result }
-    ensures said { Since front.new (λ h. TurnSaid (K.says h) result) }
-    ensures refusals { Since front.new (λ h. TurnSays (RefusalSaid (K.says h)) stage (request ∷ []) output.old output.new) }
-    ensures grows { Grows front.old front.new }
-{
-    match output.flush_much() {
-        Ok(()) => take_up(rt, note, output, kernel, front, stage, request),
-        Err(_) => Standing::Over(Over::Unwritten(stage)),
     }
 }

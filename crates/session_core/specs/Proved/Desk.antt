@@ -101,6 +101,11 @@ pub record IsOverAfter (says : Says) (base : Option (List ℕ)) (taken : List Re
 abbrev pub TurnStands : Says → Option (List ℕ) → List Request → OutputState → Turn → Type 0
 TurnStands says base taken o found = StandsIn (IsOverAfter says base taken o) says base taken o found
 
+-- it goes on from the first of these requests, all answered, to where it stands right after all of them
+abbrev pub TurnsOn : List Record → (List Record → Says) → List Request → OutputState → Stage → List Request → OutputState → Turn → Type 0
+TurnsOn front says taken old at more new found =
+    Since front (λ h. (base : Option (List ℕ)) → IsReady (says h) base taken old at → TurnStands (says h) base more new found)
+
 -- ---- between two turns
 
 -- what holds of a connection that was shut, by what its writer held

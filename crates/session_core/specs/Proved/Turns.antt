@@ -21,6 +21,8 @@ use Rattle.session_core.specs.declared.stage.Stage.TheVariants as stage
 use Rattle.session_core.specs.declared.stage.LeaveCause.{LeaveCause}
 use Rattle.session_core.specs.declared.stage.LeaveCause.TheVariants as why
 use Rattle.session_core.specs.declared.stage.Over.TheVariants as over
+use Rattle.session_core.specs.declared.stage.Called.{Called}
+use Rattle.session_core.specs.declared.stage.Called.TheVariants as called
 use Rattle.session_core.specs.declared.stage.Standing.TheVariants as standing
 use Rattle.session_core.specs.Refusals.{AreSaid}
 use Rattle.call_types.specs.declared.outcome.Outcome.{Outcome}
@@ -176,3 +178,12 @@ abbrev pub goes_on : Outcome → Bool
 goes_on (outcome.Reply reply) = false
 goes_on (outcome.Parked moved) = true
 goes_on (outcome.Part moved) = true
+
+-- where a session stands, once this came of a request at its seat
+abbrev pub turn_of : SeatState → Called → Turn
+turn_of seat called.Goes = standing.Ready (stage.Ready seat)
+turn_of seat called.Waits = standing.Waits seat
+turn_of seat called.NoMemory = standing.Over (over.Leaves (stage.Ready seat) why.NoMemory)
+turn_of seat called.Malformed = standing.Over (over.Leaves (stage.Ready seat) why.Malformed)
+turn_of seat called.Unwritten = standing.Over (over.Unwritten (stage.Ready seat))
+turn_of seat (called.Untold receipt) = standing.Over (over.Untold seat receipt)
