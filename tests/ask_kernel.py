@@ -31,7 +31,7 @@ from pathlib import Path
 from typing import Any
 
 from parts import asked_drivers, planted_answers
-from parts.planted_answers import FILED, FULL, ORDER, Row
+from parts.planted_answers import BOTH_WAYS, FILED, FULL, LEFT_OUT, ORDER, PIPED, STILL, Row
 from stand_ins import wrong_oracle
 from support.counting import Case, Count, Failure, require
 from support.drivers import IS_LINUX, NOT_AN_ACT, Driver
@@ -608,6 +608,9 @@ DUPLICATES = [
     Row(f"{FULL}; p0 dup 0", "p0 dup 0", "error EBADF"),
     Row(f"{FILED}; p0 dup 7", "p0 dup 7", "error EMFILE"),
     Row(f"{FILED}; p0 dup 0", "p0 dup 0", "2"),
+    Row(f"{STILL}; p0 dup 0; p0 getfl 1", "p0 getfl 1", "3", LEFT_OUT),
+    Row(f"{STILL}; p0 dup 0; p0 setfl 1 -,nonblock; p0 getfl 0", "p0 getfl 0", "3"),
+    Row(f"{PIPED}; p0 dup 0; p0 write 2 x61", "p0 write 2 x61", "1", BOTH_WAYS),
 ]
 
 

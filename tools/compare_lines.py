@@ -145,13 +145,15 @@ class Asked:
 
     def rooms(self, *sizes: int) -> tuple[int, int]:
         """How many bytes go into an empty FIFO of the system, and into an empty pipe, by writes of these sizes and two
-        of 65,536. Which end of a pipe has the lower number is not known; where none is made it is as the FIFO."""
+        of 65,536. Which end of a pipe has the lower number is not known, and a pipe may go both ways; where none is
+        made it is as the FIFO."""
         all_sizes = (*sizes, TRANSFER_MAX, TRANSFER_MAX)
         ends = [b"p0 pipe", b"p0 setfl 0 -,nonblock", b"p0 setfl 1 -,nonblock"]
         writes = [[b"p0 write %d 61*%d" % (fd, size) for size in all_sizes] for fd in (1, 0)]
         of_fifo = sum(map(moved, self.fifo(writes[0])))
         try:
-            of_pipe = sum(map(moved, self.given(ends, [*writes[0], *writes[1]])))
+            given = [*map(moved, self.given(ends, [*writes[0], *writes[1]]))]
+            of_pipe = max(sum(given[: len(all_sizes)]), sum(given[len(all_sizes) :]))
         except CannotRun:
             of_pipe = 0
         return of_fifo, of_pipe or of_fifo

@@ -16,6 +16,8 @@ from compare_runs import act_of
 
 # How many bytes of a read the driver sees at most.
 READ_MOST = 1_048_576
+# The numbers of flags in what getfl tells.
+READ_WRITE, NONBLOCK = 3, 64
 # What a link answers to a file that has as many as it may.
 TOO_MANY_LINKS = "error EMLINK"
 # A name of the portable filename character set.
@@ -678,6 +680,47 @@ def is_turned(it: Difference) -> bool:
     return it.words("pipe") and not it.are_errors() and it.system.split(" ") == it.fdref.split(" ")[::-1]
 
 
+def is_flag_left_out(it: Difference) -> bool:
+    """A getfl of a regular file that was opened with nonblock, and that does not tell this flag."""
+    is_asked = it.words("getfl") and it.at is not None and not it.at.pipe and it.at.is_opened_nonblock
+    return is_asked and it.fdref.isdigit() and it.system == str(int(it.fdref) & ~NONBLOCK)
+
+
+def is_both_ways(it: Difference) -> bool:
+    """A pipe that goes both ways: a getfl of an end that tells so, a write to its reading end, or a read of its writing
+    end. What else went that way is not known."""
+    if not it.at or not isinstance(it.at.file, plain_model.Pipe):
+        return False
+    if it.words("getfl"):
+        return it.fdref.isdigit() and it.system == str(int(it.fdref) | READ_WRITE)
+    is_refused = it.words("read", "write") and it.gives("error EBADF")
+    return is_refused and (is_read_back(it, it.at) if it.words("read") else is_written_back(it, it.at))
+
+
+def is_written_back(it: Difference, at: plain_model.Description) -> bool:
+    """Whether a system gives what a write to a reading end may give, where that is open for writing."""
+    assert at.pipe
+    whole, has_parts = it.count(), it.count() > PIPE_BUF
+    if it.system.isdigit():
+        return int(it.system) == whole or (at.nonblock and has_parts and 0 < int(it.system) < whole)
+    if it.system.startswith("parked "):
+        return not at.nonblock and moved(it.system) < (whole if has_parts else 1)
+    if it.system == "error EPIPE":
+        return not it.world.has_end(at.pipe, "w")
+    return it.system == "error EAGAIN" and at.nonblock
+
+
+def is_read_back(it: Difference, at: plain_model.Description) -> bool:
+    """Whether a system gives what a read of a writing end may give, where that is open for reading."""
+    assert at.pipe
+    data = plain_model.read_data(it.system.encode())
+    if data:
+        return len(data) <= it.count()
+    if not it.world.has_end(at.pipe, "r"):
+        return data is not None
+    return it.system in (("error EAGAIN",) if at.nonblock else ("parked 0", "parked ?"))
+
+
 def is_full(it: Difference) -> bool:
     """More processes than the profile has."""
     is_refused = it.words("join", "fork") and it.gives("error EAGAIN") and not it.world.is_closed
@@ -749,6 +792,8 @@ REASONS = [
     Reason("room of a pipe that is counted in pages", OWN, "page of write", is_paged_room),
     Reason("room of a pipe", OWN, "page of write", is_room),
     Reason("which end of a pipe has the lower number", OWN, "page of pipe", is_turned),
+    Reason("a pipe that goes both ways", OWN, "page of pipe", is_both_ways),
+    Reason("nonblock of a regular file in getfl", OWN, "page of open", is_flag_left_out),
     Reason("size and links of a pipe in fstat", OWN, "page of fstat", is_stat_of_pipe),
     Reason("flags that the standard leaves undefined", OWN, "page of open", is_own_flags),
     Reason("a FIFO opened for both", OWN, "page of open", is_fifo_for_both),

@@ -153,6 +153,21 @@ def turned_is_compared(program: str, folder: str) -> None:
     require(done.status == 1 and wrong in done.stdout, done.said())
 
 
+# What is beside a pipe that goes both ways is compared, and what is wrong in it is told.
+BOTH_WAYS = f"{FORKED}p0 write 0 x61\np1 read 1 9\np0 write 1 x6263\np1 read 0 9\n"
+WRONG_BESIDE = "sed 's/^\\([0-9]* p1 read 0 9\\) = x6263$/\\1 = x61/'"
+
+
+def both_ways_are_compared(program: str, folder: str) -> None:
+    """What went the other way is struck, and the rest compared: the room of such a pipe is that of one way."""
+    done = compared(program, folder, "has-pipes-both-ways", BOTH_WAYS)
+    require(done.status == 0 and b"how much room" not in done.stdout, done.said())
+    struck = b"\n       2 acts were struck and not compared: p0 write 0 x61; p1 read 1 9\n"
+    require(struck in done.stdout and b" a pipe that goes both ways (own; page of pipe)\n" in done.stdout, done.said())
+    done = compared(program, folder, "has-pipes-both-ways", BOTH_WAYS, end=f" | {WRONG_BESIDE}")
+    require(done.status == 1 and b" p1 read 0 9 = x61\nfdref:  5 p1 read 0 9 = x6263\n" in done.stdout, done.said())
+
+
 # ---- names that lead elsewhere
 
 # Ways of a wrong system, a script that shows each, the last line of the system, and what fdref gives.
@@ -209,6 +224,8 @@ FEW = f"{MANY_OPEN}p0 open a r\np0 dup 0\np0 pipe\np0 dup2 0 25\np0 close 25\np0
 LINKED = FILED + "".join(f"p0 link a {name}\n" for name in "bcdefgh")
 LINKS = f"{LINKED}p0 link a i\np0 link b j\n"
 UNLINKED = f"{LINKS}p0 rename i k\np0 unlink a\np0 unlink b\np0 link j l\np0 link c m\n"
+STILL = "join\np0 open a rw,creat,append,nonblock\np0 getfl 0\np0 dup 0\np0 setfl 1 -,nonblock\np0 getfl 0\n"
+BY_OPEN = "nonblock of a regular file in getfl (own; page of open)"
 BY_LINKS = "more than 8 links (own; page of link)"
 BY_OPEN_MAX = "fewer than 32 descriptors (own; XBD limits.h, _POSIX_OPEN_MAX)"
 BY_FILES = "lseek past the greatest file of the file system is EINVAL (the system departs; page of lseek)"
@@ -228,6 +245,7 @@ ALL_COMPARED = [
     ("takes-many-bytes", NO_WAIT, [BY_COUNT]),
     ("refuses-far-lseek", FAR, [BY_FILES]),
     ("opens-after-the-reader", LATE, [BY_READER]),
+    ("opens-without-nonblock", STILL, [BY_OPEN]),
     ("has-20-descriptors", FEW, [BY_OPEN_MAX]),
     ("has-smaller-pipes", LITTLE_ROOM, [BY_ROOM]),
     ("has-larger-pipes", WAITS_AT_ROOM, [BY_ROOM]),
@@ -578,6 +596,7 @@ def cases(program: str, folder: str) -> Iterator[Case]:
     for way, script, line, reason in OTHERWISE:
         yield way, partial(reason_is_told, program, folder, way, script, line, reason)
     yield "turned pipes", partial(turned_is_compared, program, folder)
+    yield "pipes that go both ways", partial(both_ways_are_compared, program, folder)
     for row in LED_ASTRAY:
         yield row[0], partial(name_is_told, program, folder, *row)
     for way, script, reasons in ALL_COMPARED:

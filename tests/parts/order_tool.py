@@ -122,6 +122,14 @@ CHOICES = [
         "room of a pipe that is counted in pages (own; page of write)",
     ),
 ]
+BOTH_WAYS = "a pipe that goes both ways (own; page of pipe)"
+LEFT_OUT = "nonblock of a regular file in getfl (own; page of open)"
+STILL = f"{JOINED}2 3 p0 open a rw,creat,nonblock = 0\n"
+CHOICES += [
+    (PIPED, "4 5 p0 write 0 x61 = 1", "error EBADF", BOTH_WAYS),
+    (PIPED, "4 5 p0 getfl 1 = 3", "2", BOTH_WAYS),
+    (STILL, "4 5 p0 getfl 0 = 3", "67", LEFT_OUT),
+]
 CLOSED = f"{PIPED}4 5 p0 close 0 = ok\n"
 CHOICES += [
     (PIPED, "6 7 p0 write 1 61*65537 = 65537", "error EINVAL", COUNT),

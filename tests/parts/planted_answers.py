@@ -57,6 +57,12 @@ LONG = "n" * 65
 MANY = "61*65537"
 LINKED = FILED + "".join(f"; p0 link a {name}" for name in "bcdefgh")
 
+# Regular files and FIFOs with nonblock from their open, and the same set by a setfl.
+STILL = "join; p0 open a rw,creat,nonblock"
+STILL_APPEND = "join; p0 open a rw,creat,append,nonblock"
+FIFO_DRY = f"{FIFO}; p0 open f r,nonblock"
+FIFO_ENDS = f"{FIFO_DRY}; p0 open f w"
+
 PAST_FILES = "lseek past the greatest file of the file system is EINVAL"
 COUNT = "more than 65,536 bytes in a call"
 NAMES = "names that the profile does not take"
@@ -65,6 +71,8 @@ FLAGS = "flags that the standard leaves undefined"
 BOTH = "a FIFO opened for both"
 ROOM = "room of a pipe"
 PAGED = "room of a pipe that is counted in pages"
+BOTH_WAYS = "a pipe that goes both ways"
+LEFT_OUT = "nonblock of a regular file in getfl"
 
 # Wrong answers, of which no reason excuses any.
 WRONG = [
@@ -179,6 +187,47 @@ WRONG += [
     Row(FAR_SEEK, f"p0 lseek 0 {2**41} set", "error EINVAL"),
 ]
 
+# Wrong ones beside a pipe that goes both ways, and beside a getfl that leaves out nonblock of a regular file.
+WRONG += [
+    Row(f"{PIPED}; p0 write 0 x6162", "p0 write 0 x6162", "1"),
+    Row(f"{PIPED}; p0 write 0 x6162", "p0 write 0 x6162", "3"),
+    Row(f"{PIPED}; p0 write 0 x61", "p0 write 0 x61", "0"),
+    Row(f"{PIPED}; p0 write 0 x61", "p0 write 0 x61", "error EAGAIN"),
+    Row(f"{PIPED}; p0 write 0 x61", "p0 write 0 x61", "error EPIPE"),
+    Row(f"{PIPED}; p0 write 0 61*600", "p0 write 0 61*600", "512"),
+    Row(f"{DRY}; p0 write 0 61*512", "p0 write 0 61*512", "100"),
+    Row(f"{DRY}; p0 write 0 x61", "p0 write 0 x61", "parked 0"),
+    Row(f"{PIPED}; p0 pwrite 0 0 x61", "p0 pwrite 0 0 x61", "1"),
+    Row(f"{PIPED}; p0 pread 1 0 1", "p0 pread 1 0 1", "x61"),
+    Row(f"{PIPED}; p0 read 1 1", "p0 read 1 1", "x"),
+    Row(f"{PIPED}; p0 read 1 1", "p0 read 1 1", "x6162"),
+    Row(f"{PIPED}; p0 read 1 1", "p0 read 1 1", "error EAGAIN"),
+    Row(f"{PIPED}; p0 close 0; p0 read 1 1", "p0 read 1 1", "parked 0"),
+    Row(f"{PIPED_NONBLOCK}; p0 read 1 1", "p0 read 1 1", "parked 0"),
+    Row(f"{PIPED}; p0 close 0; p0 write 0 x61", "p0 write 0 x61", "1"),
+    Row(f"{PIPED}; p0 write 1 x61", "p0 write 1 x61", "error EBADF"),
+    Row(f"{PIPED}; p0 write 1 x61; p0 read 0 1", "p0 read 0 1", "error EBADF"),
+    Row(f"{PIPED}; p0 getfl 0", "p0 getfl 0", "2"),
+    Row(f"{PIPED}; p0 getfl 1", "p0 getfl 1", "1"),
+    Row(f"{DRY}; p0 getfl 0", "p0 getfl 0", "3"),
+    Row(f"{FIFO_ENDS}; p0 write 0 x61", "p0 write 0 x61", "1"),
+    Row(f"{FIFO_ENDS}; p0 write 0 x61", "p0 write 0 x61", "parked 0"),
+    Row(f"{FIFO_ENDS}; p0 read 1 1", "p0 read 1 1", "x61"),
+    Row(f"{FIFO_ENDS}; p0 getfl 0", "p0 getfl 0", "67"),
+    Row(f"{FIFO_ENDS}; p0 getfl 1", "p0 getfl 1", "3"),
+    Row(f"{READ_ONLY}; p0 write 0 x61", "p0 write 0 x61", "1"),
+    Row(f"{READ_ONLY}; p0 getfl 0", "p0 getfl 0", "3"),
+    Row(f"{FIFO_DRY}; p0 getfl 0", "p0 getfl 0", "1"),
+    Row(f"{STILL_APPEND}; p0 getfl 0", "p0 getfl 0", "67"),
+    Row(f"{STILL_APPEND}; p0 getfl 0", "p0 getfl 0", "3"),
+    Row(f"{STILL}; p0 getfl 0", "p0 getfl 0", "2"),
+    Row(f"{STILL}; p0 getfl 0", "p0 getfl 0", "35"),
+    Row(f"{STILL}; p0 setfl 0 -,nonblock; p0 getfl 0", "p0 getfl 0", "3"),
+    Row(f"{STILL}; p0 setfl 0 -; p0 getfl 0", "p0 getfl 0", "67"),
+    Row(f"{FILED}; p0 setfl 0 -,nonblock; p0 getfl 0", "p0 getfl 0", "3"),
+    Row(f"{DRY}; p0 getfl 0", "p0 getfl 0", "1"),
+]
+
 # Right answers that fdref does not give, each with its reason.
 RIGHT = [
     Row(f"{FILED}; p0 pread 0 0 70000", "p0 pread 0 0 70000", "x616263", COUNT),
@@ -242,6 +291,23 @@ RIGHT = [
     Row(f"{PIPED}; p0 ftruncate 0 0", "p0 ftruncate 0 0", "error EBADF", "ftruncate of a pipe"),
     Row(f"join; join; {FIFO[6:]}; p1 open f r; p0 open f w,nonblock", "p0 open f w,nonblock", "error ENXIO",
         "a FIFO whose reader waits in its open"),
+    Row(f"{STILL}; p0 getfl 0", "p0 getfl 0", "3", LEFT_OUT),
+    Row(f"{STILL_APPEND}; p0 getfl 0", "p0 getfl 0", "35", LEFT_OUT),
+    Row(f"{STILL}; p0 fork; p1 attach; p1 getfl 0", "p1 getfl 0", "3", LEFT_OUT),
+    Row(f"{PIPED}; p0 write 0 x61", "p0 write 0 x61", "1", BOTH_WAYS),
+    Row(f"{PIPED}; p0 write 0 x61", "p0 write 0 x61", "parked 0", BOTH_WAYS),
+    Row(f"{PIPED}; p0 write 0 61*600", "p0 write 0 61*600", "parked ?", BOTH_WAYS),
+    Row(f"{PIPED}; p0 close 1; p0 write 0 x61", "p0 write 0 x61", "error EPIPE", BOTH_WAYS),
+    Row(f"{PIPED}; p0 fork; p1 attach; p1 write 0 x61", "p1 write 0 x61", "1", BOTH_WAYS),
+    Row(f"{DRY}; p0 write 0 61*2000", "p0 write 0 61*2000", "1024", BOTH_WAYS),
+    Row(f"{DRY}; p0 write 0 x61", "p0 write 0 x61", "error EAGAIN", BOTH_WAYS),
+    Row(f"{PIPED}; p0 read 1 9", "p0 read 1 9", "x61", BOTH_WAYS),
+    Row(f"{PIPED}; p0 read 1 9", "p0 read 1 9", "parked 0", BOTH_WAYS),
+    Row(f"{PIPED}; p0 close 0; p0 read 1 9", "p0 read 1 9", "x", BOTH_WAYS),
+    Row(f"{PIPED_NONBLOCK}; p0 read 1 9", "p0 read 1 9", "error EAGAIN", BOTH_WAYS),
+    Row(f"{PIPED}; p0 getfl 0", "p0 getfl 0", "3", BOTH_WAYS),
+    Row(f"{PIPED}; p0 getfl 1", "p0 getfl 1", "3", BOTH_WAYS),
+    Row(f"{DRY}; p0 getfl 0", "p0 getfl 0", "67", BOTH_WAYS),
     Row(f"{PIPED}; p0 fstat 0", "p0 fstat 0", "pipe 0 1", "size and links of a pipe in fstat"),
     Row(f"{PIPED}; p0 write 1 x; p0 write 1 x6162", "p0 write 1 x", "error EAGAIN", "a write of no bytes to a pipe"),
     Row(f"{WRITE_ONLY}; p0 read 0 0", "p0 read 0 0", "x", "errors of a call of no bytes"),

@@ -151,6 +151,53 @@ def turned_pipe(world: plain_model.World, process: plain_model.Process) -> plain
     return f"{writing} {reading}"
 
 
+# What went into each pipe by its reading end.
+BACK: dict[plain_model.Pipe, plain_model.Pipe] = {}
+
+
+def back_of(process: plain_model.Process, fd: int, mode: str) -> plain_model.Pipe | None:
+    """The other direction of a pipe that goes both ways, where a descriptor is its end of a mode."""
+    at = process.table.get(fd)
+    is_end = at is not None and at.pipe is not None and at.file is at.pipe and at.mode == mode
+    return BACK.setdefault(at.pipe, plain_model.Pipe(at.pipe.capacity)) if at and at.pipe and is_end else None
+
+
+def write_both_ways(world: plain_model.World, process: plain_model.Process, fd: int, data: bytes) -> object:
+    """A write that goes into the other direction at the reading end of a pipe, as far as there is room."""
+    back = back_of(process, fd, "r")
+    if back is None:
+        return WRITE(world, process, fd, data)
+    call = WaitingWrite(back, data)
+    plain_model.require(len(data) <= back.room() or not call.is_whole, "EAGAIN")
+    call.put(world)
+    plain_model.require(call.moved, "EAGAIN")
+    return call.moved
+
+
+def read_both_ways(world: plain_model.World, process: plain_model.Process, fd: int, count: int) -> object:
+    """A read that takes from the other direction at the writing end of a pipe."""
+    back = back_of(process, fd, "w")
+    if back is None:
+        return READ(world, process, fd, count)
+    if not back.data:
+        process.waits = WaitingRead(back, count)
+        return None
+    return world.get(back, count)
+
+
+def told_both_ways(world: plain_model.World, process: plain_model.Process, fd: int) -> object:
+    """A getfl that tells of each end of a pipe that it is open for both."""
+    is_end = back_of(process, fd, "r") or back_of(process, fd, "w")
+    return GETFL(world, process, fd) | (3 if is_end else 0)
+
+
+def without_nonblock(world: plain_model.World, process: plain_model.Process, name: bytes, flags: str) -> object:
+    """An open of a regular file that leaves out nonblock."""
+    file = world.names.get(name)
+    is_fifo = isinstance(file, plain_model.Fifo)
+    return OPEN(world, process, name, flags if is_fifo else flags.replace(",nonblock", ""))
+
+
 PIPE, WRITE_END = plain_model.World.pipe, plain_model.World.write_end
 
 def take_last_first(run: settled_driver.Settled, act: plain_model.Act) -> None:
@@ -177,6 +224,7 @@ def leave_old_name(world: plain_model.World, _: plain_model.Process, old: bytes,
     return "ok"
 
 
+GETFL = plain_model.World.getfl
 PWRITE, WRITE, READ = plain_model.World.pwrite, plain_model.World.write, plain_model.World.read
 # What a system takes that moves more bytes in a call than the profile.
 MANY = 2**32
@@ -436,6 +484,12 @@ OTHERWISE: dict[str, list[tuple[type, str, Callable[..., object]]]] = {
     "no-part-without-a-reader": [(WaitingWrite, "go_on", gives_no_part)],
     "serves-the-last-first": [(settled_driver.Settled, "take", take_last_first)],
     "turns-pipes": [(plain_model.World, "pipe", turned_pipe)],
+    "has-pipes-both-ways": [
+        (plain_model.World, "write", write_both_ways),
+        (plain_model.World, "read", read_both_ways),
+        (plain_model.World, "getfl", told_both_ways),
+    ],
+    "opens-without-nonblock": [(plain_model.World, "open", without_nonblock)],
     "nonblock-ends-a-read": [(WaitingRead, "is_ready", is_ended), (WaitingRead, "go_on", given_or_ended)],
     "refuses-far-lseek": [(plain_model.World, "lseek", near_seek)],
     "refuses-far-lseek-and-moves": [(plain_model.World, "lseek", moving_seek)],

@@ -115,6 +115,8 @@ class Description:
         self.mode = mode
         self.append = "append" in flags
         self.nonblock = "nonblock" in flags
+        # whether nonblock is from the open, and no setfl came since
+        self.is_opened_nonblock = self.nonblock
         self.offset = 0
 
     @property
@@ -387,6 +389,7 @@ class World:
         at = find(process, fd)
         given = flags.split(",")
         at.append, at.nonblock = "append" in given, "nonblock" in given
+        at.is_opened_nonblock = False
         return "ok"
 
     # -- bytes and offsets
