@@ -19,6 +19,10 @@ a history with a pipe or FIFO, one is searched for with pipes of 65,536 bytes, a
 So it does in how many parts a write of more than 512 bytes goes into a pipe, and an order of such parts is searched for
 then: `a write of more than 512 bytes in parts (own)`. And so it does which end of a pipe has the lower number. Where
 that is the writing one, dup2 and close are added, and the ends change places.
+Left open, too, is how much a write of more than 512 bytes has moved that waits and ends early, since the last reader
+has gone. Where calls overlap, and no order explains them else, such a write is two in an order: one of what it gave,
+and one of the rest, which is EPIPE: `how much a write has moved that ends early (own)`. A call on a pipe of more than
+65,536 bytes, which fdref does not take, is one or two of fewer then: `more than 65,536 bytes in a call (own)`.
 
 So has a history where each call that fdref answers otherwise has a reason of tools/compare.py that is its own choice:
 where calls overlap, each such call in an order that explains the others. Where none do, a call that is refused has
@@ -36,7 +40,7 @@ calls that overlap a reason is told as `perhaps` where not each that is answered
 in the order in which they came back. Histories that differ in their times alone are searched once.
 
 A search is given up after --seconds or --states, and a history where its first search is. Where that finds no order
-there are up to eight more, as with larger pipes and with parts of writes, and twice 20 seconds to make a part short.
+there are up to 14 more, as with larger pipes and with parts of writes, and twice 20 seconds to make a part short.
 
 After several histories the last line counts them. Exit status: 0 where all are explained, or have a reason that is
 fdref's own, 1 where one is not, 2 for wrong words and where HISTORY cannot be read, 3 where fdref could not be run or
@@ -55,16 +59,20 @@ from support.ordering import (
     ROOMY,
     SECONDS,
     STATES_MOST,
+    ByEarlyEnd,
     ByEpipe,
     ByParts,
     ByRoom,
+    ByTransfer,
     Explained,
     GivenUp,
     Result,
     Unexplained,
+    by_early_end,
     by_epipe,
     by_parts,
     by_room,
+    by_transfer,
     explain,
 )
 from support.pipe_ends import turned
@@ -87,6 +95,12 @@ BY_PARTS = "reason: a write of more than 512 bytes in parts (own; page of write)
 # What is told of a history that only writes explain that end in EPIPE, and its reason.
 WITH_EPIPE = "where a write that has moved a part is EPIPE without a reader"
 BY_EPIPE = "reason: EPIPE of a write that has moved a part (own; page of write)"
+# What is told of a history that only writes explain that end early after other bytes than in fdref, and its reason.
+EARLY = "where a write whose last reader goes has moved as much as it gave"
+BY_EARLY_END = "reason: how much a write has moved that ends early (own; page of write)"
+# What is told of a history that only calls explain of more bytes than fdref takes, and its reason.
+PAST_MOST = "where calls of more than 65,536 bytes are others, which fdref takes"
+BY_TRANSFER = "reason: more than 65,536 bytes in a call (own; pages of read and write)"
 # What is told of a history in which the writing end of a pipe has the lower number.
 TURNED = "where the ends of a pipe change places, by dup2 and close"
 BY_TURN = "reason: which end of a pipe has the lower number (own; page of pipe)"
@@ -106,9 +120,16 @@ class Chosen(NamedTuple):
     told: str
 
 
-Answer = Result | ByRoom | ByParts | ByEpipe | Chosen
-# What is told of the histories that only parts, or such writes, explain, and the reasons.
-TOLD: dict[type, tuple[str, str]] = {ByParts: (IN_PARTS, BY_PARTS), ByEpipe: (WITH_EPIPE, BY_EPIPE)}
+Answer = Result | ByRoom | ByParts | ByEpipe | ByEarlyEnd | ByTransfer | Chosen
+# What is told of the histories that only parts, or such writes and reads, explain, and the reasons.
+TOLD: dict[type, tuple[str, str]] = {
+    ByParts: (IN_PARTS, BY_PARTS),
+    ByEpipe: (WITH_EPIPE, BY_EPIPE),
+    ByEarlyEnd: (EARLY, BY_EARLY_END),
+    ByTransfer: (PAST_MOST, BY_TRANSFER),
+}
+# The kinds of answers, in the order in which they are counted.
+KINDS = (Explained, Unexplained, GivenUp, ByRoom, ByParts, ByEpipe, ByEarlyEnd, ByTransfer, Chosen)
 
 
 class Orders:
@@ -121,7 +142,7 @@ class Orders:
         # whether it is known how many bytes a pipe of the system holds
         self.has_room = isinstance(args.limits, ChosenLimits)
         self.known: dict[tuple[object, ...], tuple[int, Answer]] = {}
-        self.counts = {Explained: 0, Unexplained: 0, GivenUp: 0, ByRoom: 0, ByParts: 0, ByEpipe: 0, Chosen: 0}
+        self.counts = dict.fromkeys(KINDS, 0)
 
     def answer(self, number: int, history: Sequence[Noted]) -> None:
         """Answers for a history, and prints what is to be told of it."""
@@ -139,7 +160,7 @@ class Orders:
             told = self.unordered(history, result) if is_new else f"as history {first}\n"
         if exchanged and is_new:
             told += (NOT_BY_TURN if isinstance(result, Unexplained) else BY_TURN) + "\n"
-        if not (self.args.quiet and (isinstance(result, Explained | ByRoom | ByParts | ByEpipe | Chosen) or not is_new)):
+        if not (self.args.quiet and (not isinstance(result, Unexplained | GivenUp) or not is_new)):
             print(("" if self.is_one else f"history {number}: ") + told, end="", flush=True)
 
     def found_turned(self, history: Sequence[Noted]) -> Answer:
@@ -160,6 +181,8 @@ class Orders:
         rooms = (self.args.limits,) if self.has_room else (self.args.limits, ROOMY)
         found: Answer | None = None if self.has_room else by_room(history, *most)
         found = found or by_parts(history, *most, *rooms) or by_epipe(history, *most, *rooms)
+        if not found and not apart.is_one_by_one(history):
+            found = by_early_end(history, *most, *rooms) or by_transfer(history, *most, *rooms)
         return found or self.unexplained(history)
 
     def unexplained(self, history: Sequence[Noted]) -> Result | Chosen:
@@ -256,7 +279,7 @@ class Orders:
             lines = verified(self.program, history, result.steps, ROOMY)
             told = [f"an order explains it {WHERE_ROOMY}"]
             return "\n".join([*told, *map(moved_line, lines), BY_ROOM, ""])
-        if isinstance(result, ByParts | ByEpipe):
+        if isinstance(result, ByParts | ByEpipe | ByEarlyEnd | ByTransfer):
             lines = verified(self.program, result.history, result.steps, result.limits)
             where, reason = TOLD[type(result)]
             return "\n".join([f"an order explains it {where}", *map(moved_line, lines), reason, ""])
@@ -268,11 +291,13 @@ class Orders:
 
     def totals(self) -> str:
         """The last line."""
-        explained, unexplained, given_up, roomy, parted, broken, chosen = self.counts.values()
+        explained, unexplained, given_up, roomy, parted, broken, early, larger, chosen = self.counts.values()
         text = f"histories {sum(self.counts.values())} explained {explained} unexplained {unexplained} "
         text += f"given up {given_up}" + (f" room of a pipe {roomy}" if roomy else "")
         text += f" writes in parts {parted}" if parted else ""
         text += f" EPIPE after a part {broken}" if broken else ""
+        text += f" writes that end early {early}" if early else ""
+        text += f" more than 65,536 bytes {larger}" if larger else ""
         return text + (f" other choices {chosen}" if chosen else "")
 
     def status(self) -> int:

@@ -166,13 +166,17 @@ class RoomReason(Reason):
         return not is_known and ordering.by_room(race.history, STATES_MOST, SEARCH_SECONDS) is not None
 
 
+def rooms_of(race: Race) -> list[Limits]:
+    """The limits of the runs in which an order of a history may be: of pipes as they are, and of larger ones."""
+    return [race.limits] if isinstance(race.limits, ChosenLimits) else [race.limits, ordering.ROOMY]
+
+
 class PartsReason(Reason):
     """The reason that a large write to a pipe goes in by parts: an order explains all with other calls between them."""
 
     def fits(self, race: Race) -> bool:
         """Whether an order explains a history with such parts, also where pipes are larger, if that may be."""
-        rooms = [race.limits] if isinstance(race.limits, ChosenLimits) else [race.limits, ordering.ROOMY]
-        return ordering.by_parts(race.history, STATES_MOST, SEARCH_SECONDS, *rooms) is not None
+        return ordering.by_parts(race.history, STATES_MOST, SEARCH_SECONDS, *rooms_of(race)) is not None
 
 
 class EpipeReason(Reason):
@@ -180,8 +184,23 @@ class EpipeReason(Reason):
 
     def fits(self, race: Race) -> bool:
         """Whether an order explains a history with such writes, also where pipes are larger, if that may be."""
-        rooms = [race.limits] if isinstance(race.limits, ChosenLimits) else [race.limits, ordering.ROOMY]
-        return ordering.by_epipe(race.history, STATES_MOST, SEARCH_SECONDS, *rooms) is not None
+        return ordering.by_epipe(race.history, STATES_MOST, SEARCH_SECONDS, *rooms_of(race)) is not None
+
+
+class EarlyEndReason(Reason):
+    """The reason that a large write whose last reader goes has moved as much as it gave: an order explains all then."""
+
+    def fits(self, race: Race) -> bool:
+        """Whether an order explains a history with such writes, also where pipes are larger, if that may be."""
+        return ordering.by_early_end(race.history, STATES_MOST, SEARCH_SECONDS, *rooms_of(race)) is not None
+
+
+class TransferReason(Reason):
+    """The reason that calls on pipes move more bytes than fdref takes: an order explains all with calls of fewer."""
+
+    def fits(self, race: Race) -> bool:
+        """Whether an order explains a history with such calls, also where pipes are larger, if that may be."""
+        return ordering.by_transfer(race.history, STATES_MOST, SEARCH_SECONDS, *rooms_of(race)) is not None
 
 
 class LinkReason(Reason):
@@ -248,6 +267,8 @@ REASONS = [
     RoomReason("room of a pipe (own)", "page of write", is_never),
     PartsReason("a write of more than 512 bytes in parts (own)", "page of write", is_never),
     EpipeReason("EPIPE of a write that has moved a part (own)", "page of write", is_never),
+    EarlyEndReason("how much a write has moved that ends early (own)", "page of write", is_never),
+    TransferReason("more than 65,536 bytes in a call (own)", "pages of read and write", is_never),
 ]
 
 

@@ -546,11 +546,17 @@ def reads_a_file(program: str) -> None:
 
 
 def answers_the_example(program: str) -> None:
-    """The example asks what a write may give: that, and what had gone in before the read, but nothing in between."""
+    """The example asks what a write may give: that, and what had gone in before the read, and by a choice of fdref's own
+    what else there was room for, but no more than fits where it is known how much does, nor less than was read."""
     text = Path(EXAMPLES, "may-it.history").read_text(encoding="ascii")
     require(told(program, text).stdout.endswith(b" p0 resume = 1624\n"), told(program, text).said())
-    for status, other in ((0, "1024"), (1, "1025"), (1, "1625"), (0, "?")):
-        same(status, told(program, text.replace("= 1624", f"= {other}")).status)
+    for other in ("1024", "?"):
+        done = told(program, text.replace("= 1624", f"= {other}"))
+        require(done.status == 0 and b"an order explains it\n" in done.stdout and b"own" not in done.stdout, done.said())
+    done = told(program, text.replace("= 1624", "= 1025"))
+    require(done.status == 0 and done.stdout.endswith(f"\n{BY_EARLY_END}\n".encode()), done.said())
+    same(1, told(program, text.replace("= 1624", "= 1625"), "--pipe-capacity", "1024").status)
+    same(1, told(program, text.replace("= 1624", "= 599").replace("600 = ?", "600 = 61*600")).status)
 
 
 def says_of_nothing(program: str) -> None:
@@ -635,6 +641,64 @@ NOT_BROKEN = [
 ]
 
 
+# A write whose last reader goes, and that gives less than fdref would have moved: what pages left free, in a pipe of
+# less room, by parts. The nearest that are wrong: more than there is room for, or than was read, a reader is left or
+# goes later, it goes in at once or is not to wait, and another byte is read.
+HELD_BEFORE = f"{LONE}12 13 p0 write 1 62*100 = 100\n"
+CUT_OFF = f"{LONE}20 90 p0 write 1 61*3000 = 900\n30 40 p1 read 0 600 = 61*600\n50 60 p1 close 0 = ok\n"
+BY_EARLY_END = "reason: how much a write has moved that ends early (own; page of write)"
+CUT_BY_PARTS = f"{THREE}12 13 p0 close 0 = ok\n14 15 p1 close 0 = ok\n16 17 p2 close 1 = ok\n"
+CUT_BY_PARTS += "20 90 p0 write 1 61*3000 = 900\n20 90 p1 write 1 62*600 = 600\n30 40 p2 read 0 300 = 61*300\n"
+CUT_BY_PARTS += f"42 43 p2 read 0 1000 = x{'62' * 600}{'61' * 100}\n50 60 p2 close 0 = ok\n"
+EARLY_ENDS = [
+    (f"{HELD_BEFORE}20 90 p0 write 1 61*65536 = 61440\n30 40 p1 close 0 = ok\n", "  p0 write 1 61*4096 = error EPIPE"),
+    (CUT_OFF, "  p0 write 1 61*2100 = error EPIPE"),
+    (CUT_OFF.replace("50 60 p1 close 0 = ok", "50 60 p1 exit = ok"), "  p0 write 1 61*2100 = error EPIPE"),
+    (CUT_BY_PARTS, "  p0 write 1 61*2100 = error EPIPE"),
+]
+NO_EARLY_ENDS = [
+    f"{HELD_BEFORE}20 90 p0 write 1 61*65536 = 65500\n30 40 p1 close 0 = ok\n",
+    f"{HELD_BEFORE}20 90 p0 write 1 61*65536 = 65487\n30 40 p1 read 0 50 = 62*50\n50 60 p1 close 0 = ok\n",
+    CUT_OFF.replace("= 900", "= 599"),
+    CUT_OFF.replace("50 60 p1 close 0 = ok", "50 60 p1 getfl 0 = 1"),
+    CUT_OFF.replace("50 60 p1 close", "44 45 p1 dup2 0 1 = 1\n50 60 p1 close"),
+    CUT_OFF.replace("50 60", "91 92"),
+    CUT_OFF.replace("61*3000 = 900", "61*512 = 300").replace("600 = 61*600", "300 = 61*300"),
+    f"{LONE}12 13 p0 setfl 1 -,nonblock = ok\n20 90 p0 write 1 61*1600 = 100\n30 40 p1 close 0 = ok\n",
+    CUT_OFF.replace("600 = 61*600", f"600 = x{'61' * 599}62"),
+    CUT_OFF.replace("= 900", "= 0"),
+    CUT_OFF.replace("= 900", "= 3001"),
+]
+
+
+# Calls on pipes of more bytes than fdref takes, which overlap others. The nearest that are wrong: more moved than there
+# is room for, with a reader left and without, one that waits for no reason or not, and another byte is read.
+OVER = f"{LONE}20 90 p0 write 1 61*65700 = 65536\n30 40 p1 read 0 10 = 61*10\n50 60 p1 close 0 = ok\n"
+OVER_READ = f"{LONE}20 90 p0 write 1 61*5000 = 5000\n30 99 p1 read 0 66000 = 61*5000\n"
+AT_ONCE = f"{LONE}12 13 p0 setfl 1 -,nonblock = ok\n20 90 p0 write 1 61*65700 = 65536\n30 40 p1 getfl 0 = 1\n"
+SLEEPING = f"{LONE}20 - p0 write 1 61*65700 = parked ?\n30 40 p1 read 0 100 = 61*100\n"
+BY_TRANSFER = "reason: more than 65,536 bytes in a call (own; pages of read and write)"
+PAST_MOST = [
+    OVER,
+    OVER.replace("= 65536", "= 65546"),
+    OVER.replace("= 65536", "= 1000"),
+    OVER_READ,
+    AT_ONCE,
+    SLEEPING,
+    f"{LONE}20 90 p0 write 1 61*65700 = error EPIPE\n30 40 p1 close 0 = ok\n",
+]
+NOT_PAST_MOST = [
+    OVER.replace("= 65536", "= 65547"),
+    OVER.replace("50 60 p1 close 0 = ok", "50 60 p1 getfl 0 = 1"),
+    OVER.replace("10 = 61*10", f"10 = x{'61' * 9}62"),
+    OVER.replace("= 65536", "= 9"),
+    OVER_READ.replace("= 61*5000\n", "= 61*5001\n"),
+    AT_ONCE.replace("12 13 p0 setfl 1 -,nonblock", "12 13 p0 setfl 1 -"),
+    SLEEPING.replace("30 40 p1 read 0 100 = 61*100", "30 40 p1 close 0 = ok"),
+    f"{FILED}4 5 p0 fork = 1\n6 7 p1 attach = ok\n20 90 p0 write 0 61*65700 = 65536\n30 40 p1 getfl 0 = 66\n",
+]
+
+
 # Small writes that are torn: for want of room in fdref's pipes, too, which is not what is wrong.
 TORN_SMALL = f"{THREE}12 13 p0 write 1 63*100 = 100\n20 40 p0 write 1 61*512 = 512\n20 40 p1 write 1 62*512 = 512\n"
 TORN_SMALL += f"50 51 p2 read 0 400 = x{'63' * 100}{'61' * 300}\n52 53 p2 read 0 512 = 62*512\n"
@@ -652,6 +716,18 @@ def part_cases(program: str) -> Iterator[Case]:
         yield f"no EPIPE of a part: {text}", partial(fails, program, text, 1, "no order explains it")
     counted = "histories 2 explained 1 unexplained 0 given up 0 EPIPE after a part 1"
     yield "EPIPE of a part, counted", partial(ends_with, program, f"{BROKEN}\n{GOOD}", 0, counted)
+    for text, line in EARLY_ENDS:
+        yield f"ends early: {text}", partial(ends_with, program, text, 0, f"{line}\n{BY_EARLY_END}")
+    for text in NO_EARLY_ENDS:
+        yield f"does not end early: {text}", partial(fails, program, text, 1, "no order explains it")
+    counted = "histories 2 explained 1 unexplained 0 given up 0 writes that end early 1"
+    yield "ends early, counted", partial(ends_with, program, f"{CUT_OFF}\n{GOOD}", 0, counted)
+    for text in PAST_MOST:
+        yield f"more than fdref takes: {text}", partial(ends_with, program, text, 0, BY_TRANSFER)
+    for text in NOT_PAST_MOST:
+        yield f"not more than fdref takes: {text}", partial(fails, program, text, 1, "no order explains it")
+    counted = "histories 2 explained 1 unexplained 0 given up 0 more than 65,536 bytes 1"
+    yield "more than fdref takes, counted", partial(ends_with, program, f"{OVER}\n{GOOD}", 0, counted)
     yield "torn, and out of room", partial(ends_with, program, TORN_SMALL, 1, NOT_BY_ROOM)
     counted = "histories 2 explained 1 unexplained 0 given up 0 writes in parts 1"
     yield "in parts, counted", partial(ends_with, program, f"{IN_PARTS[1][0]}\n{GOOD}", 0, counted)

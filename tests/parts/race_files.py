@@ -116,6 +116,8 @@ APPENDED = f"{SETUP}10 11 p0 open a rw,creat,append = 2\n12 13 p0 pwrite 2 0 x61
 NOT_WOKEN = ["20 - p0 read 0 4 = parked ?", "25 - p1 write 1 61*8000 = parked ?"]
 LONE, ALONE = "p0 close 0\np1 close 1\n", f"{SETUP}8 9 p0 close 0 = ok\n10 11 p1 close 1 = ok\n"
 BROKEN = ["20 90 p0 write 1 61*3000 = error EPIPE", "30 40 p1 read 0 600 = 61*600", "50 60 p1 close 0 = ok"]
+CUT_OFF = ["15 16 p0 write 1 62*100 = 100", "20 90 p0 write 1 61*65536 = 61440", "50 60 p1 close 0 = ok"]
+LARGE = ["20 90 p0 write 1 61*65700 = 65536", "30 40 p1 read 0 10 = 61*10", "50 60 p1 close 0 = ok"]
 CHOICES = [
     (JOINS, JOINED, ["20 30 p0 open a r,trunc = 1", "21 31 p1 open b rw,creat = 0"], 0, FLAGS),
     (ENDS, SETUP, ["20 30 p0 fstat 0 = pipe 0 1", "21 31 p1 getfl 0 = 1"], 0, STAT),
@@ -135,6 +137,11 @@ CHOICES = [
     # a write that is EPIPE after a part, and one that has a reader
     (f"{ENDS}{LONE}", ALONE, BROKEN, 0, "EPIPE of a write that has moved a part (own) (page of write)"),
     (f"{ENDS}{LONE}", ALONE, [*BROKEN[:2], "50 60 p1 getfl 0 = 1"], 1, BARE),
+    # one that ends early, one that moved more than there is room for, and one of more bytes than fdref takes
+    (f"{ENDS}{LONE}", ALONE, CUT_OFF, 0, "how much a write has moved that ends early (own) (page of write)"),
+    (f"{ENDS}{LONE}", ALONE, [CUT_OFF[0], CUT_OFF[1].replace("= 61440", "= 65500"), CUT_OFF[2]], 1, BARE),
+    (f"{ENDS}{LONE}", ALONE, LARGE, 0, "more than 65,536 bytes in a call (own) (pages of read and write)"),
+    (f"{ENDS}{LONE}", ALONE, [*LARGE[:2], "50 60 p1 getfl 0 = 1"], 1, BARE),
     # a read that is not woken has nothing to do with appending
     (ENDS, SETUP, NOT_WOKEN, 1, BARE),
     (f"{ENDS}{APPENDING}", APPENDED, NOT_WOKEN, 1, BARE),

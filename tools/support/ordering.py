@@ -13,7 +13,8 @@ from typing import NamedTuple
 from support.footprints import Footprints
 from support.histories import UNKNOWN, WAITS, Noted
 from support.late_links import late_links
-from support.pieces import are_of_pipes, in_parts
+from support.pieces import are_cut_off, are_of_pipes, chunked, clipped, ended_early, in_parts, is_past_most
+from support.pieces import Rewrite, rewritten
 from support.plain_model import DEFAULTS, PIPE_BUF, PIPE_CAPACITY_MOST, Limits
 from support.searching import Search, Step, TooLong
 from support.shortening import Shortening
@@ -55,6 +56,25 @@ class ByParts(NamedTuple):
 class ByEpipe(NamedTuple):
     """A history that an order explains only where a write to a pipe ends in EPIPE though it has moved a part: the
     history without the answers of such writes, the steps of that order, and the limits of its run."""
+
+    history: list[Noted]
+    steps: list[Step]
+    limits: Limits
+
+
+class ByEarlyEnd(NamedTuple):
+    """A history that an order explains only where a write to a pipe that waits, and whose last reader goes, has moved
+    what was told, whatever room there was: the history in which it is a write of that and one that has no reader, the
+    steps of that order, and the limits of its run."""
+
+    history: list[Noted]
+    steps: list[Step]
+    limits: Limits
+
+
+class ByTransfer(NamedTuple):
+    """A history that an order explains only where calls move more bytes than fdref takes: the history in which these
+    are calls that it takes, the steps of that order, and the limits of its run."""
 
     history: list[Noted]
     steps: list[Step]
@@ -141,6 +161,50 @@ def by_epipe(
             continue
         if steps is not None:
             return ByEpipe(ordered, steps, one)
+    return None
+
+
+def by_early_end(
+    history: Sequence[Noted], states_most: int = STATES_MOST, seconds: float = SECONDS, *limits: Limits
+) -> ByEarlyEnd | None:
+    """An order of a history that explains it where large writes to a pipe whose last reader goes end early, after as
+    many bytes as they gave, if there is one, in a run of the first of these limits that has one."""
+    if any(map(is_past_most, history)):
+        return None
+    found = by_rewriting(history, ended_early, states_most, seconds, *limits)
+    return ByEarlyEnd(*found) if found else None
+
+
+def by_transfer(
+    history: Sequence[Noted], states_most: int = STATES_MOST, seconds: float = SECONDS, *limits: Limits
+) -> ByTransfer | None:
+    """An order of a history that explains it where reads and writes of pipes may be of more bytes than fdref takes, if
+    there is one, in a run of the first of these limits that has one."""
+    if not any(map(is_past_most, history)):
+        return None
+    ways = (by_rewriting(history, rewrite, states_most, seconds, *limits) for rewrite in (chunked, clipped))
+    found = next(filter(None, ways), None)
+    return ByTransfer(*found) if found else None
+
+
+def by_rewriting(
+    history: Sequence[Noted], rewrite: Rewrite, states_most: int, seconds: float, *limits: Limits
+) -> tuple[list[Noted], list[Step], Limits] | None:
+    """A history in which calls on pipes are given as others, with an order that explains it, if there is one, in a run
+    of the first of these limits that has one; large writes go in at once, or by parts where each waits for room."""
+    told = sorted(history, key=lambda noted: noted.start)
+    whole = rewritten(told, rewrite)
+    if whole == told:
+        return None
+    # a part of what fits at once would not be known as such
+    parted = None if rewrite is clipped else in_parts(whole)
+    for ordered in filter(None, (whole, parted)):
+        for one in limits:
+            result = explain(ordered, states_most, seconds, 0, one)
+            if not isinstance(result, Explained) or not are_of_pipes(told, result.steps, one):
+                continue
+            if are_cut_off(told, rewrite, result.steps, one):
+                return ordered, result.steps, one
     return None
 
 

@@ -3,15 +3,19 @@ page of write leaves that open, with nonblock and without. In fdref such a write
 
 Where the parts end is told by what was read: where a read ends, or goes on with the bytes of another write. Each part
 is then a write of its own, made in the time of the whole.
+
+One that waits, and ends early since the last reader has gone, gives what it moved in all: how much that is is left
+open, too. It is a write of just that, and one of the rest, which finds no reader. One of more bytes than fdref takes in
+a call is several, of which fdref takes each.
 """
 
 import os
 from collections import deque
-from collections.abc import Iterator, Sequence
+from collections.abc import Callable, Iterable, Iterator, Sequence
 
 from support import plain_model
-from support.histories import Noted
-from support.plain_model import PIPE_BUF, Act, Limits
+from support.histories import WAITS, Noted
+from support.plain_model import PIPE_BUF, TRANSFER_MAX, Act, Limits
 from support.runs import ALL_RECORDS
 from support.searching import Step
 
@@ -84,13 +88,98 @@ def in_parts(history: Sequence[Noted], most_at_once: int = PIPE_BUF) -> list[Not
     return parted if len(parted) > len(history) else None
 
 
+# ---- writes that end early, and calls of more bytes than fdref takes
+
+# What calls a call is given to fdref as.
+Rewrite = Callable[[Noted], list[Noted]]
+
+
+def is_short(noted: Noted) -> bool:
+    """Whether a call is a write of more than PIPE_BUF bytes that moved some of them, and not all."""
+    is_large = noted.act.word == "write" and len(noted.act.fields[1]) > PIPE_BUF
+    return is_large and noted.outcome.isdigit() and 0 < int(noted.outcome) < len(noted.act.fields[1])
+
+
+def is_past_most(noted: Noted) -> bool:
+    """Whether a call reads or writes more bytes than fdref takes."""
+    if noted.act.word not in ("read", "write"):
+        return False
+    last: bytes | int = noted.act.fields[1]
+    return (len(last) if isinstance(last, bytes) else last) > TRANSFER_MAX
+
+
+def ended_early(noted: Noted) -> list[Noted]:
+    """A short write as one of what it moved, and one of the rest, which finds no reader."""
+    if not is_short(noted):
+        return [noted]
+    moved, data = int(noted.outcome), noted.act.fields[1]
+    first = noted._replace(act=with_data(noted.act, data[:moved]))
+    rest = noted._replace(act=with_data(noted.act, data[moved:][:TRANSFER_MAX]), outcome="error EPIPE")
+    return [*chunks(first), rest]
+
+
+def chunks(noted: Noted) -> list[Noted]:
+    """A write that moved all, or one that waits once all but its last bytes are in, as writes that fdref takes."""
+    data: bytes = noted.act.fields[1]
+    pieces = [data[at : at + TRANSFER_MAX] for at in range(0, len(data), TRANSFER_MAX)]
+    told = [*(str(len(it)) for it in pieces[:-1]), str(len(pieces[-1])) if noted.outcome.isdigit() else noted.outcome]
+    return [
+        noted._replace(act=with_data(noted.act, it), outcome=outcome) for it, outcome in zip(pieces, told, strict=True)
+    ]
+
+
+def is_over(noted: Noted) -> bool:
+    """Whether a write moved all its bytes."""
+    return noted.outcome == str(len(noted.act.fields[1]))
+
+
+def clipped(noted: Noted) -> list[Noted]:
+    """A call of no more bytes than fdref takes, in place of one of more; a write that moved all as several."""
+    if not is_past_most(noted):
+        return [noted]
+    if noted.act.word == "write":
+        data = with_data(noted.act, noted.act.fields[1][:TRANSFER_MAX])
+        return chunks(noted) if is_over(noted) else [noted._replace(act=data)]
+    return [noted._replace(act=noted.act._replace(fields=(noted.act.fields[0], TRANSFER_MAX)))]
+
+
+def chunked(noted: Noted) -> list[Noted]:
+    """The same, but a short write as one that ended early, and one that waits as several."""
+    if is_short(noted):
+        return ended_early(noted)
+    waits = noted.act.word == "write" and is_past_most(noted) and noted.outcome == WAITS
+    return chunks(noted) if waits else clipped(noted)
+
+
+def rewritten(history: Iterable[Noted], rewrite: Rewrite) -> list[Noted]:
+    """A history in which calls are given to fdref as others."""
+    return [it for noted in history for it in rewrite(noted)]
+
+
+def are_cut_off(history: Sequence[Noted], rewrite: Rewrite, steps: Sequence[Step], limits: Limits) -> bool:
+    """Whether each short write that is given as one of what it moved, and one of the rest, may wait in an order; and
+    none that is given as one of fewer bytes, since it moves what fits."""
+    short = [(noted.act, [it.act for it in rewrite(noted)]) for noted in history if is_short(noted)]
+    rests = {acts[-1] for _, acts in short if acts[1:]}
+    fewer = {acts[0] for act, acts in short if not acts[1:] and acts[0] != act}
+    run = plain_model.Run(ALL_RECORDS, limits)
+    for act, outcome in steps:
+        process = run.world.processes.get(act.actor) if isinstance(act.actor, int) else None
+        at = process.table.get(act.fields[0]) if process and act.word == "write" else None
+        is_rest = act in rests and outcome == "error EPIPE"
+        if at and (is_rest or act in fewer) and at.nonblock == is_rest:
+            return False
+        run.take(act)
+    return True
+
+
 def are_of_pipes(history: Sequence[Noted], steps: Sequence[Step], limits: Limits) -> bool:
-    """Whether each step of an order that is no act of a history, but a part of one, is a write to a pipe."""
+    """Whether each step of an order that is no act of a history, but a part of one, is made on a pipe."""
     whole = {noted.act for noted in history}
     run = plain_model.Run(ALL_RECORDS, limits)
     for act, _ in steps:
         process = run.world.processes.get(act.actor) if isinstance(act.actor, int) else None
-        at = process.table.get(act.fields[0]) if process and act.word == "write" else None
+        at = process.table.get(act.fields[0]) if process and act.word in ("read", "write") else None
         if at and not at.pipe and act not in whole:
             return False
         run.take(act)
