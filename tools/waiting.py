@@ -6,15 +6,18 @@ usage: tools/waiting.py TRACE
 TRACE is a file that `fdref serve` has written, or is writing still: where a server seems to stand still, this tells
 what its clients wait for. Of each process that is there a line says in what call it waits, since which record, and who
 has the other end of the pipe or FIFO; or that the call can go on, so that its resume is due; that it waits in no call;
-or that it was forked and has no connection. Then it tells how many bytes of a record that is not whole are left over,
-as a server leaves them that was killed. The last line counts the processes. What a server has answered stands in TRACE
-about a millisecond later. Whether a client reads its answers it does not tell: one that does not waits in no call. Nor
-does a trace have the number of sessions, or a connection that has sent nothing yet, which takes one of them: while a
-run goes on, a line says so.
+or that it was forked and has no connection. A line tells, too, of each process that ended in a call that could go on,
+since which record it could. Its wake is lost if others were recorded meanwhile, or if nothing but exits comes after.
+But where the header has a number of records, as that of `fdref serve`, or version 1, a connection may have been lost in
+that moment, or the run had no record for the resume: that says nothing of a wake. Then it tells how many bytes of a
+record that is not whole are left over, as a server leaves them that was killed. The last line counts the processes.
+What a server has answered stands in TRACE about a millisecond later. Whether a client reads its answers it does not
+tell: one that does not waits in no call. Nor does a trace have the number of sessions, or a connection that has sent
+nothing yet, which takes one of them: while a run goes on, a line says so.
 
 Exit status: 0 where a process that has a connection waits in no call, or there is none; 1 where all of them wait, and
-the call of none can go on, or where one can go on and did not for a third of a second, so that its wake is lost; 2 for
-wrong words; 3 where TRACE cannot be read, or is malformed or illegal.
+the call of none can go on, or where one can go on and did not for a third of a second, so that its wake is lost, or the
+wake of one is lost that has ended; 2 for wrong words; 3 where TRACE cannot be read, or is malformed or illegal.
 """
 
 import argparse
@@ -22,9 +25,10 @@ import sys
 import time
 from collections.abc import Iterator, Sequence
 from pathlib import Path
+from typing import NamedTuple
 
-from support.auditing import Audit
-from support.plain_model import Process, WaitingOpen, WaitingRead, World
+from support.auditing import Audit, Judge, act_of
+from support.plain_model import DEFAULTS, OLD_LIMITS, Limits, Process, WaitingOpen, WaitingRead, World
 from support.runs import line_of
 from support.texts import several
 
@@ -37,6 +41,11 @@ RESUME_SECONDS = 0.3
 # How much of a call is shown.
 CALL_SHOWN = 60
 
+# What is told of a call that could go on, and has no resume: one of the last two where a server may have written that.
+WAKE_LOST = ": its wake is lost"
+ANY_LOST = ": its wake is lost, or its connection was"
+NO_ROOM = ", and no record was free for its resume"
+
 # What is told of a run that goes on.
 UNSEEN = "a connection that has sent nothing yet is not seen"
 
@@ -45,11 +54,80 @@ class BadTrace(Exception):
     """What is no trace of a run."""
 
 
+class Watching(Judge):
+    """The model beside the records of a trace, which notes who ends in a call that could go on."""
+
+    # the place of the exit of each, and how many records the run must have where its resume had room
+    ended: dict[int, tuple[int, int]]
+
+    def __init__(self, limits: Limits = DEFAULTS) -> None:
+        super().__init__(limits)
+        self.ended = {}
+
+    def end(self, process: Process) -> None:
+        """Ends a process."""
+        if process.waits and process.waits.is_ready(self.world):
+            reserve = len(self.world.processes) + (not self.world.is_closed)
+            self.ended[process.number] = self.records, self.records + 1 + reserve
+        super().end(process)
+
+
+class Unwoken(NamedTuple):
+    """A process that ended in a call that could go on."""
+
+    number: int
+    # the places of the record since which it could, and of its exit
+    since: int
+    exit: int
+    # that its wake is lost, or else what may be why it has no resume, as told
+    why: str
+
+    @property
+    def is_lost(self) -> bool:
+        """Whether nothing but a lost wake is why it has no resume."""
+        return self.why == WAKE_LOST
+
+    def told(self, place: int, shown: str) -> str:
+        """What is told of its call, which is shown, and has this place."""
+        since = f"which could go on since record {self.since}"
+        return f"p{self.number} ended at record {self.exit} in {shown} of record {place}, {since}{self.why}"
+
+
+def unwoken_in(audit: Audit) -> list[Unwoken]:
+    """Those of a legal trace who ended in calls that could go on. Where there are some it is gone through again."""
+    assert isinstance(audit.judge, Watching)
+    ended = audit.judge.ended
+    ready: dict[int, int] = {}
+    again = Judge(audit.judge.world.limits)
+    for place, text in enumerate(audit.frames.lines if ended else []):
+        again.outcome_of(act_of(line_of(text).act))
+        for process in (again.world.processes.get(number) for number in ended):
+            if process and process.waits and process.waits.is_ready(again.world):
+                ready.setdefault(process.number, place)
+            elif process:
+                ready.pop(process.number, None)
+    return [
+        Unwoken(number, ready[number], place, why_unwoken(audit, ready[number], place, wanted))
+        for number, (place, wanted) in ended.items()
+    ]
+
+
+def why_unwoken(audit: Audit, since: int, place: int, wanted: int) -> str:
+    """Why a call has no resume that could go on since a record, until the exit at a place, where it had wanted a run of
+    so many records."""
+    if audit.records and wanted > audit.records:
+        return NO_ROOM
+    if audit.records or audit.judge.world.limits == OLD_LIMITS:
+        return ANY_LOST
+    later = (line_of(text).act.split(" ")[1] for text in audit.frames.lines[place:])
+    return WAKE_LOST if place > since + 1 or all(word in ("exit", "close-run") for word in later) else ""
+
+
 class Standing:
     """Where the processes of a run stand after the records of a trace."""
 
     def __init__(self, trace: bytes) -> None:
-        audit = Audit(trace)
+        audit = Audit(trace, Watching)
         if not audit.verdict.stdout.startswith(b"legal "):
             raise BadTrace(audit.verdict.stdout.decode().strip())
         self.world: World = audit.judge.world
@@ -60,12 +138,13 @@ class Standing:
         self.connections = 0
         # the calls that can go on, and did not for a while: those of these processes
         self.lost: set[int] = set()
+        self.unwoken = unwoken_in(audit)
         for place, text in enumerate(audit.frames.lines):
             line = line_of(text)
             who, word = line.act.split(" ")[:2]
             if word in ("join", "attach"):
                 self.connections += not line.outcome.startswith("error ")
-            elif word != "resume" and who != "house":
+            elif word not in ("resume", "exit") and who != "house":
                 self.calls[int(who[1:])] = place, line.act.partition(" ")[2]
 
     def is_stuck(self, process: Process) -> bool:
@@ -93,6 +172,11 @@ class Standing:
         end = "writing" if isinstance(process.waits, WaitingRead) else "reading"
         return f"where the {end} end is open in {', '.join(self.holders(process))}"
 
+    def shown(self, number: int) -> tuple[int, str]:
+        """The last call of a process: its place, and what is shown of it."""
+        place, call = self.calls[number]
+        return place, call if len(call) <= CALL_SHOWN else f"{call[:CALL_SHOWN]}.."
+
     def told(self, process: Process) -> str:
         """What a process does."""
         who = f"p{process.number}"
@@ -100,10 +184,9 @@ class Standing:
             return f"{who} was forked and has no connection"
         if process.waits is None:
             return f"{who} waits in no call"
-        place, call = self.calls[process.number]
-        shown = call if len(call) <= CALL_SHOWN else f"{call[:CALL_SHOWN]}.."
+        place, shown = self.shown(process.number)
         moved = f", with {several(process.waits.moved, 'byte')} moved" if process.waits.moved else ""
-        late = ": its wake is lost" if process.number in self.lost else ""
+        late = WAKE_LOST if process.number in self.lost else ""
         reason = self.reason(process) if self.is_stuck(process) else f"and can go on{late}"
         return f"{who} waits in {shown} since record {place}{moved}, {reason}"
 
@@ -125,7 +208,15 @@ class Standing:
             last += ": none goes on by itself"
         if self.lost:
             last += f": {several(len(self.lost), 'call')} can go on, and no resume came"
-        return [*map(self.told, processes), *self.beside(), last]
+        never = sum(one.is_lost for one in self.unwoken)
+        if never:
+            last += f": {several(never, 'call')} could go on, and no resume came before the exit"
+        ended = [one.told(*self.shown(one.number)) for one in self.unwoken]
+        return [*map(self.told, processes), *ended, *self.beside(), last]
+
+    def is_still(self) -> bool:
+        """Whether nobody goes on, or a wake is lost."""
+        return self.all_wait() or bool(self.lost) or any(one.is_lost for one in self.unwoken)
 
     def all_wait(self) -> bool:
         """Whether all that have a connection wait, and the call of none can go on."""
@@ -167,7 +258,7 @@ def main(words: Sequence[str]) -> int:
         print(f"waiting: {args.trace}: {fault}", file=sys.stderr)
         return CANNOT_READ
     print("\n".join(standing.lines()))
-    return STANDS_STILL if standing.all_wait() or standing.lost else GOES_ON
+    return STANDS_STILL if standing.is_still() else GOES_ON
 
 
 if __name__ == "__main__":

@@ -3,6 +3,7 @@
 import contextlib
 import io
 import os
+import random
 import sys
 import tempfile
 import time
@@ -14,7 +15,8 @@ from unittest import mock
 from parts.written_traces import random_records
 from support.auditing import Judge, act_of
 from support.counting import Case, require, same
-from support.frames import trace_of
+from support.frames import OLD_MAGIC, header_bytes, trace_of
+from support.plain_model import Act
 from support.places import TOOLS
 from support.running import Ran, run
 from support.sources import numbered, source
@@ -31,6 +33,12 @@ UNSEEN = "a connection that has sent nothing yet is not seen"
 NOBODY = ": a server that goes on waits for connections"
 STUCK = ": none goes on by itself"
 LOST = ": 1 call can go on, and no resume came"
+NEVER = ": 1 call could go on, and no resume came before the exit"
+GONE = "0 processes, 0 with a connection (2 so far), 0 of which wait"
+PARKED = [*BOTH, "4 p1 close 1 = ok", "5 p1 read 0 5 = parked 0"]
+WRITTEN = [*PARKED, "6 p0 write 1 x616263 = 3"]
+LEFT = [*WRITTEN, "7 p0 exit = ok", "8 p1 exit = ok", "9 house close-run = ok"]
+ENDED = "p1 ended at record 8 in read 0 5 of record 5, which could go on since record 6"
 # Records, what is told of them, and the exit status.
 BY_HAND: list[tuple[str, list[str], str, int]] = [
     ("nobody", [], f"0 processes, 0 with a connection (0 so far), 0 of which wait{NOBODY}", 0),
@@ -96,6 +104,32 @@ BY_HAND: list[tuple[str, list[str], str, int]] = [
         "0 processes, 0 with a connection (1 so far), 0 of which wait",
         0,
     ),
+    ("an end in a call that could go on", LEFT, f"{ENDED}: its wake is lost\n{GONE}{NEVER}", 1),
+    (
+        "an end after the exit of the last writer, and nothing else",
+        [*PARKED, "6 p0 exit = ok", "7 p1 exit = ok", "8 house close-run = ok"],
+        "p1 ended at record 7 in read 0 5 of record 5, which could go on since record 6: its wake is lost\n"
+        f"{GONE}{NEVER}",
+        1,
+    ),
+    (
+        "an end just as the call could go on",
+        [*WRITTEN, "7 p1 exit = ok", "8 p0 close 0 = ok", "9 p0 exit = ok", "10 house close-run = ok"],
+        f"p1 ended at record 7 in read 0 5 of record 5, which could go on since record 6\n{GONE}",
+        0,
+    ),
+    (
+        "an end in a call that can go on no more",
+        [*WRITTEN, "7 p0 read 0 3 = x616263", "8 p1 exit = ok", "9 p0 exit = ok", "10 house close-run = ok"],
+        GONE,
+        0,
+    ),
+]
+# What else is told where a server may have written the trace of such an end: a header, and what is told.
+SERVED = [
+    ("a number of records", header_bytes(11), ": its wake is lost, or its connection was"),
+    ("no record for a resume", header_bytes(10), ", and no record was free for its resume"),
+    ("version 1", OLD_MAGIC, ": its wake is lost, or its connection was"),
 ]
 
 
@@ -112,6 +146,11 @@ def by_hand(records: list[str], text: str, status: int) -> None:
     *processes, last = text.split("\n")
     lines = [*processes, last] if records and "close-run" in records[-1] else [*processes, UNSEEN, last]
     same(Ran(status, "".join(f"{line}\n" for line in lines).encode(), b""), told(trace_of(records)))
+
+
+def served(header: bytes, why: str) -> None:
+    """What is told of the end in a call that could go on, where a server may have written the trace."""
+    same(Ran(0, f"{ENDED}{why}\n{GONE}\n".encode(), b""), told(trace_of(LEFT, header)))
 
 
 def long_is_told() -> None:
@@ -172,14 +211,42 @@ def no_trace() -> None:
             require(ran.status == 3 and fault in ran.stderr, ran.said())
 
 
+def act_in(line: str) -> Act:
+    """The act of a record's line, with its place."""
+    return act_of(line.split(" ", 1)[1].rpartition(" = ")[0])
+
+
+def exits_after(pick: random.Random, records: list[str]) -> list[str]:
+    """The records of some exits, in any order, of those who have a connection after records."""
+    judge = Judge()
+    for line in records:
+        judge.outcome_of(act_in(line))
+    there = [process.number for process in judge.world.processes.values() if process.attached]
+    there = pick.sample(there, pick.randrange(len(there) + 1))
+    return [f"{place} p{number} exit = ok" for place, number in enumerate(there, len(records))]
+
+
 def random_case(seed: str, number: int) -> None:
     """After random acts those are there whom the model has, with what each does."""
     pick = source(f"{seed} waiting", number)
     records = random_records(pick)
     records = records[: pick.randrange(len(records) + 1)]
+    if pick.random() < 0.5:
+        records += exits_after(pick, records)
     judge = Judge()
-    for line in records:
-        judge.outcome_of(act_of(line.split(" ", 1)[1].rpartition(" = ")[0]))
+    # since when which calls can go on, and who has ended in one that could
+    ready: dict[int, int] = {}
+    ended: list[str] = []
+    is_lost = False
+    acts = [act_in(line) for line in records]
+    for place, act in enumerate(acts):
+        if act.word == "exit" and isinstance(act.actor, int) and act.actor in ready:
+            ended.append(f"p{act.actor} ended")
+            only_exits = all(later.word in ("exit", "close-run") for later in acts[place:])
+            is_lost = is_lost or place > ready[act.actor] + 1 or only_exits
+        judge.outcome_of(act)
+        can = [it.number for it in judge.world.processes.values() if it.waits and it.waits.is_ready(judge.world)]
+        ready = {number: ready.get(number, place) for number in can}
     there = sorted(judge.world.processes.values(), key=lambda one: one.number)
     wanted = []
     for it in there:
@@ -188,15 +255,17 @@ def random_case(seed: str, number: int) -> None:
         wanted.append(f"p{it.number} {what}")
     ran = told(trace_of(records))
     lines = ran.stdout.decode().splitlines()
-    same(wanted, [seen(line) for line in lines[:-1] if line != UNSEEN])
+    same([*wanted, *ended], [seen(line) for line in lines[:-1] if line != UNSEEN])
     same(not judge.world.is_closed, UNSEEN in lines)
     attached = [line for line in wanted if not line.endswith("alone")]
-    is_lost = any(line.endswith("ready") for line in attached)
+    is_lost = is_lost or any(line.endswith("ready") for line in attached)
     same(int(is_lost or (bool(attached) and all(line.endswith("stuck") for line in attached))), ran.status)
 
 
 def seen(line: str) -> str:
     """What a line tells of a process."""
+    if " ended at record " in line:
+        return f"{line.split(' ')[0]} ended"
     ends = {"was forked and has no connection": "alone", "waits in no call": "goes on"}
     ends["and can go on: its wake is lost"] = "ready"
     return f"{line.split(' ')[0]} {next((what for end, what in ends.items() if line.endswith(end)), 'stuck')}"
@@ -206,6 +275,8 @@ def cases(seed: str, count: int) -> Iterator[Case]:
     """Traces by hand, and so many random ones."""
     for name, records, text, status in BY_HAND:
         yield name, partial(by_hand, records, text, status)
+    for name, header, why in SERVED:
+        yield f"an end in a call that could go on, {name}", partial(served, header, why)
     yield "what takes long", long_is_told
     yield "what is not seen", nothing_is_told
     yield "a call that is taken up later", later_is_looked_at

@@ -96,13 +96,14 @@ class Frames:
 
 
 class Audit:
-    """The audit of a trace: its verdict, as `fdref audit` gives it, and the model after the records that are legal."""
+    """The audit of a trace: its verdict, as `fdref audit` gives it, and the model after the records that are legal, of
+    a kind that may note more."""
 
-    def __init__(self, trace: bytes) -> None:
+    def __init__(self, trace: bytes, kind: type[Judge] = Judge) -> None:
         self.frames = Frames(trace)
         header = self.frames.header
         self.records = header.records if header else 0
-        self.judge = Judge(header.limits if header else DEFAULTS)
+        self.judge = kind(header.limits if header else DEFAULTS)
         self.verdict = self.judged()
 
     def judged(self) -> Ran:
