@@ -777,7 +777,8 @@ class Verdict:
 
     def is_all_compared(self) -> bool:
         """Whether all that it did was compared, but for what only looks."""
-        is_all_seen = not self.compared.started.calls and not self.compared.looks() and not past.told_own(self.past)
+        are_told = past.told_own(self.past) or past.told_unlooked(self.native)
+        is_all_seen = not self.compared.started.calls and not self.compared.looks() and not are_told
         return is_all_seen and not past.doubt(self.past)
 
     def has_ended(self) -> bool:
@@ -1066,6 +1067,7 @@ def told(verdict: Verdict, seconds: float, before: int) -> str:
     is_other = bool(findings) or do_outputs_differ(verdict.both)
     lines += past.told_signals(every) if is_other else []
     lines += told_looks(len(verdict.compared.looks())) + past.told_own(every)
+    lines += past.told_unlooked(verdict.native)
     lines += map(compare.clipped, told_started(verdict.compared.started) + past.told_past(every))
     return "\n".join([*lines, f"audit: {verdict.audit}"])
 

@@ -43,6 +43,8 @@ OWN = "own"
 WRONG = "wrong"
 # A native call that a signal may have ended, whose number stands after the call, and that has not ended by it.
 UNENDED = "unended"
+# A native wait that has told how a child has ended, which nothing else tells.
+UNLOOKED = "unlooked"
 # A file of fdref at descriptor 0, which stdio does not read.
 IDLE = "idle"
 # A native call that has not failed, and has set errno.
@@ -58,7 +60,10 @@ COUNTED = {
 MANY = {MAKES: "descriptors of the system"}
 
 # Kinds that have changed nothing in the native run which has no line, or are asked for by themselves.
-UNDOUBTED = (THREAD, SIGNAL, VFORK, CUT, INTERRUPT, TIMER, MADE, HANDLER, MAKES, RIGHTS, LOOK, OWN, WRONG, UNENDED, ERRNO, IDLE)
+UNDOUBTED = (
+    *(THREAD, SIGNAL, VFORK, CUT, INTERRUPT, TIMER, MADE, HANDLER, MAKES, RIGHTS, LOOK, OWN, WRONG, UNENDED),
+    *(UNLOOKED, ERRNO, IDLE),
+)
 
 # Calls that look, or hasten what comes anyway: they change no file, but may tell something else than natively.
 LOOKS = re.compile(
@@ -109,7 +114,8 @@ class Past(NamedTuple):
 
     def is_past(self) -> bool:
         """Whether it is a call that went past fdref, and not what holds one of fdref."""
-        return self.kind not in (THREAD, SIGNAL, MADE, INTERRUPT, HANDLER, MAKES, RIGHTS, LOOK, OWN, WRONG, UNENDED, ERRNO, IDLE)
+        kinds = (THREAD, SIGNAL, MADE, INTERRUPT, HANDLER, MAKES, RIGHTS, LOOK, OWN, WRONG, UNENDED, UNLOOKED, ERRNO, IDLE)
+        return self.kind not in kinds
 
     def why(self) -> str:
         """The same as what a difference may be by."""
@@ -188,6 +194,12 @@ def told_own(every: list[Past]) -> list[str]:
     """Which calls of the program were not judged, since the library answers them by itself."""
     calls = dict.fromkeys(it.call for it in every if it.kind == OWN)
     return [f"not compared: {', '.join(calls)}, which the library answers by itself in both runs"] if calls else []
+
+
+def told_unlooked(native: list[Past]) -> list[str]:
+    """Which native waits have told how a child has ended, with which nothing could be compared."""
+    calls = dict.fromkeys(it.call for it in native if it.kind == UNLOOKED)
+    return [f"not compared: how a child ended, of which the system told by {', '.join(calls)}"] if calls else []
 
 
 def told_signals(every: list[Past]) -> list[str]:

@@ -435,6 +435,15 @@ static void keep_child(pid_t in_system, long number)
     kept = (kept + 1) % CHILDREN;
 }
 
+/* Its number of its own, or -1 where it is not known. */
+static long number_of(pid_t in_system)
+{
+    int at = 0;
+    while (at < CHILDREN && children[at].in_system != in_system)
+        at++;
+    return at < CHILDREN ? children[at].number : -1;
+}
+
 /* The child is attached first, so that it has an exit of its own, however it ends. */
 static int64_t fork_asked(pid_t (*next)(void))
 {
@@ -464,6 +473,30 @@ static int64_t fork_asked(pid_t (*next)(void))
     return made;
 }
 
+/* Asks the kernel whether there is a child, or any: -1, and which one has ended. It may wait for that. */
+static int has_child(pid_t which, siginfo_t *ended, int options)
+{
+    memset(ended, 0, sizeof *ended);
+    return system_syscall(SYS_waitid, (long)(which > 0 ? P_PID : P_ALL), (long)(which > 0 ? which : 0), ended,
+                          (long)(WEXITED | WNOWAIT | options), NULL) == 0;
+}
+
+/* Whether the children of this process stay until it waits for them. */
+static int are_kept(void)
+{
+    struct sigaction action;
+    return system_sigaction(SIGCHLD, NULL, &action) == 0 && action.sa_handler != SIG_IGN
+           && (action.sa_flags & SA_NOCLDWAIT) == 0;
+}
+
+/* Notes natively that a fork has told a number that is none of its children's. */
+static void check_forked(pid_t made)
+{
+    siginfo_t ended;
+    if (is_watching() && is_alone() && are_kept() && !has_child(made, &ended, WNOHANG) && errno == ECHILD)
+        note_wrong("fork", "has told the number of no child");
+}
+
 static pid_t fork_natively(pid_t (*next)(void))
 {
     struct quiet before = be_quiet();
@@ -481,6 +514,8 @@ static pid_t fork_natively(pid_t (*next)(void))
         forget_others();
         note_handlers();
     }
+    if (made > 0)
+        check_forked(made);
     if (made > 0)
         keep_child(made, (long)number);
     if (made < 0)
@@ -527,13 +562,11 @@ FORKS_FOR(vfork)
 static pid_t ended_child(pid_t child, int status)
 {
     char number[12], name[24] = "";
-    int at = 0;
-    while (at < CHILDREN && children[at].in_system != child)
-        at++;
-    if (at < CHILDREN)
-        snprintf(name, sizeof name, "p%ld", children[at].number);
-    if (at < CHILDREN && (WIFEXITED(status) || WIFSIGNALED(status)))
-        log_wait(children[at].number);
+    long known_as = number_of(child);
+    if (known_as >= 0)
+        snprintf(name, sizeof name, "p%ld", known_as);
+    if (known_as >= 0 && (WIFEXITED(status) || WIFSIGNALED(status)))
+        log_wait(known_as);
     if (WIFSIGNALED(status)) {
         snprintf(number, sizeof number, "%d", WTERMSIG(status));
         notes("signal", number, *name ? name : NULL);
@@ -543,34 +576,39 @@ static pid_t ended_child(pid_t child, int status)
 
 /* ---- what a native wait tells, beside what the kernel tells of the children */
 
-/* A wait for a child, or any: -1. What had ended before is known where no other thread or handler waits for it. */
+/* A wait for a child, or any: -1. What had ended before is known where no other thread or handler waits for it; so it
+   is that there was no child. */
 struct waiting {
     const char *name;
     pid_t which, child;
-    int is_known, options, code, status;
+    int is_known, is_childless, options, code, status;
     unsigned runs;
 };
 enum { KNOWN_OPTIONS = WNOHANG | WUNTRACED | WCONTINUED };
 
-/* Asks the kernel whether there is a child, and which one has ended, without waiting. */
-static int has_child(pid_t which, siginfo_t *ended)
+/* Whether the kernel may be let wait before the system's function does: no handler ends that. */
+static int may_wait(int options)
 {
-    memset(ended, 0, sizeof *ended);
-    return system_syscall(SYS_waitid, (long)(which > 0 ? P_PID : P_ALL), (long)(which > 0 ? which : 0), ended,
-                          (long)(WEXITED | WNOHANG | WNOWAIT), NULL) == 0;
+    int number = 1;
+    while (number < NSIG && handlings[number] != ENDS_CALLS)
+        number++;
+    return options == 0 && number == NSIG;
 }
 
 static struct waiting begin_waiting(const char *name, pid_t which, int options)
 {
-    struct waiting it = {name, which, 0, 0, options, 0, 0, runs};
+    struct waiting it = {name, which, 0, 0, 0, options, 0, 0, runs};
     siginfo_t ended;
     int error = errno;
     it.is_known = is_watching() && (which > 0 || which == -1) && (options & ~KNOWN_OPTIONS) == 0;
-    if (it.is_known && is_alone() && has_child(which, &ended)) {
+    if (it.is_known && is_alone() && has_child(which, &ended, may_wait(options) ? 0 : WNOHANG)) {
         it.child = ended.si_pid;
         it.code = ended.si_code;
         it.status = ended.si_status;
+    } else if (it.is_known && is_alone()) {
+        it.is_childless = errno == ECHILD;
     }
+    it.runs = runs;
     errno = error;
     return it;
 }
@@ -585,20 +623,55 @@ static int is_status(const struct waiting *it, int status)
 
 static void check_ended(const struct waiting *it, pid_t child, int status)
 {
-    char text[80];
+    char text[100];
     siginfo_t ended;
-    int said = said_exit(child);
+    int said = said_exit(child), is_seen = child == it->child;
     if (it->which > 0 && child != it->which)
         note_wrong(it->name, "has told another child than it was asked for");
     else if (!WIFEXITED(status) && !WIFSIGNALED(status))
         return;
-    else if (has_child(child, &ended))
+    else if (has_child(child, &ended, WNOHANG))
         note_wrong(it->name, "has told the end of a child that is still there");
-    else if (child == it->child && !is_status(it, status))
-        note_wrong(it->name, "has told otherwise how a child has ended");
     else if (WIFEXITED(status) && said >= 0 && WEXITSTATUS(status) != said) {
-        snprintf(text, sizeof text, "has told that a child has exited with %d, which has with %d", WEXITSTATUS(status),
-                 said);
+        /* where the kernel has told the same, the other function is wrong */
+        int is_right = is_seen && is_status(it, status);
+        if (is_right)
+            snprintf(text, sizeof text, "was called with %d, and the child has ended with %d, as %s tells", said,
+                     WEXITSTATUS(status), it->name);
+        else
+            snprintf(text, sizeof text, "has told that a child has exited with %d, which has called %s(%d)",
+                     WEXITSTATUS(status), ends_by(child), said);
+        if (is_right && number_of(child) >= 0)
+            note_past('!', (uint64_t)log_length(), (uint32_t)number_of(child), "wrong", ends_by(child), text);
+        else
+            note_wrong(is_right ? ends_by(child) : it->name, text);
+    } else if (is_seen && !is_status(it, status))
+        note_wrong(it->name, "has told otherwise how a child has ended");
+    else if (!is_seen && (said < 0 || WIFSIGNALED(status)))
+        notes("unlooked", it->name, NULL);
+}
+
+/* Whether a handler may have run that this library has not called. */
+static int is_heard_elsewhere(void)
+{
+    struct sigaction now;
+    int number = 1;
+    while (number < NSIG && (are_heard[number] || system_sigaction(number, NULL, &now) != 0
+                             || now.sa_handler == SIG_DFL || now.sa_handler == SIG_IGN))
+        number++;
+    return number < NSIG;
+}
+
+static void check_failed(const struct waiting *it, int error)
+{
+    char text[80];
+    siginfo_t ended;
+    if (error == EINTR && it->runs == runs && !is_heard_elsewhere())
+        note_wrong(it->name, "has failed with EINTR, and no handler has run");
+    else if (error != EINTR && is_alone() && has_child(it->which, &ended, WNOHANG))
+        note_wrong(it->name, "has failed, and there is such a child");
+    else if (error != EINTR && error != ECHILD && is_alone()) {
+        snprintf(text, sizeof text, "has failed with error %d, and ECHILD is due", error);
         note_wrong(it->name, text);
     }
 }
@@ -606,17 +679,36 @@ static void check_ended(const struct waiting *it, pid_t child, int status)
 static void check_wait(const struct waiting *it, pid_t child, int status)
 {
     int error = errno;
-    siginfo_t ended;
-    if (it->is_known && child > 0)
+    if (it->is_known && it->is_childless && child >= 0 && it->runs == runs)
+        note_wrong(it->name, "has not failed, and there is no such child");
+    else if (it->is_known && child > 0)
         check_ended(it, child, status);
     else if (it->is_known && child == 0 && (it->options & WNOHANG) == 0)
         note_wrong(it->name, "has told of no child, without WNOHANG");
     else if (it->is_known && child == 0 && it->child > 0 && it->runs == runs)
         note_wrong(it->name, "has told of no child, and one has ended");
-    else if (it->is_known && child < 0 && error != EINTR && is_alone() && has_child(it->which, &ended))
-        note_wrong(it->name, "has failed, and there is such a child");
+    else if (it->is_known && child < 0)
+        check_failed(it, error);
     errno = error;
 }
+
+/* Waits by a system's function, so that it is seen where that goes on after a signal. */
+static struct ending *begin_ending(struct ending *own, pid_t which)
+{
+    struct ending *outer = ending;
+    *own = ending_of(-1, NULL, 0, 0);
+    own->is_wait = 1;
+    own->which = which;
+    ending = is_watching() ? own : NULL;
+    return outer;
+}
+#define WAITING(done, which, call) \
+    do { \
+        struct ending met, *ending_before = begin_ending(&met, which); \
+        WITHIN(done, call); \
+        ending = ending_before; \
+        check_gone_on(&met, __func__, done); \
+    } while (0)
 
 #define WAITS(name, parameters, words, which, options) \
     pid_t name parameters \
@@ -630,7 +722,7 @@ static void check_wait(const struct waiting *it, pid_t child, int status)
             return next words; \
         prepare(); \
         waiting = begin_waiting(#name, which, options); \
-        WITHIN(child, next words); \
+        WAITING(child, which, next words); \
         check_wait(&waiting, child, child > 0 ? *status : 0); \
         return child > 0 ? ended_child(child, *status) : child; \
     }
@@ -654,7 +746,7 @@ int waitid(idtype_t kind, id_t which, siginfo_t *given, int options)
     memset(&own, 0, sizeof own);
     waiting = begin_waiting("waitid", kind == P_PID ? (pid_t)which : kind == P_ALL ? -1 : 0, options & ~WEXITED);
     waiting.is_known = waiting.is_known && (options & (WEXITED | WNOWAIT)) == WEXITED;
-    WITHIN(done, next(kind, which, to, options));
+    WAITING(done, (pid_t)which, next(kind, which, to, options));
     is_ended = done == 0 && to->si_pid > 0
                && (to->si_code == CLD_EXITED || to->si_code == CLD_KILLED || to->si_code == CLD_DUMPED);
     if (is_ended || done != 0)
@@ -675,7 +767,7 @@ WAITS(wait4, (pid_t which, int *given, int options, struct rusage *used), (which
     { \
         NEXT_OF(name); \
         prepare(); \
-        tell_exit(status); \
+        tell_exit(status, 1); \
         end(); \
         for (;;) \
             next(status); \

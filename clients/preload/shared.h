@@ -46,10 +46,11 @@ static void begin_sharing(void)
 
 static uint64_t *exit_of(pid_t pid) { return &shared->exits[(uint64_t)pid % EXITS_MOST]; }
 
-/* Says that this process exits with a status, or that it is there, below 0. */
+/* Says that this process exits with a status, to which AT_ONCE is added by _exit; or that it is there, below 0. */
+enum { AT_ONCE = 256 };
 static void say_exit(pid_t pid, int status)
 {
-    uint64_t said = status < 0 ? 0 : (uint64_t)pid << 32 | (uint64_t)(status & 255);
+    uint64_t said = status < 0 ? 0 : (uint64_t)pid << 32 | (uint64_t)status;
     __atomic_store_n(exit_of(pid), said, __ATOMIC_SEQ_CST);
 }
 
@@ -58,6 +59,12 @@ static int said_exit(pid_t pid)
 {
     uint64_t said = __atomic_load_n(exit_of(pid), __ATOMIC_SEQ_CST);
     return said >> 32 == (uint64_t)pid ? (int)(said & 255) : -1;
+}
+
+/* The function by which it has said so. */
+static const char *ends_by(pid_t pid)
+{
+    return (__atomic_load_n(exit_of(pid), __ATOMIC_SEQ_CST) & AT_ONCE) != 0 ? "_exit" : "exit";
 }
 
 /* Says in which call a process is, which has a number that is one more than its own, or 0 where it is in none. */

@@ -586,17 +586,17 @@ static void end(void)
 }
 
 /* Natively a process says with which status it exits. */
-static void tell_exit(int status)
+static void tell_exit(int status, int is_at_once)
 {
     if (how == NATIVE && own_pid == getpid())
-        say_exit(own_pid, status & 255);
+        say_exit(own_pid, (status & 255) | (is_at_once ? AT_ONCE : 0));
 }
 
 #ifdef __GLIBC__
 static void tell_at_exit(int status, void *unused)
 {
     (void)unused;
-    tell_exit(status);
+    tell_exit(status, 0);
 }
 #endif
 

@@ -17,12 +17,15 @@ struct ending {
     enum { NOT_MET, NOT_KNOWN, IS_ENDED } met;
     int number;
     uint64_t moved;
+    /* a wait for children has their number in place of a descriptor */
+    int is_wait;
+    pid_t which;
 };
 static __thread struct ending *ending;
 
 static struct ending ending_of(int fd, const void *at, uint64_t size, uint64_t total)
 {
-    struct ending it = {fd, (const char *)at, size, total, NOT_MET, 0, 0};
+    struct ending it = {fd, (const char *)at, size, total, NOT_MET, 0, 0, 0, 0};
     return it;
 }
 
@@ -39,6 +42,8 @@ static int is_after_call(const greg_t *kept)
 static int is_made_for(const struct ending *it, const greg_t *kept)
 {
     uintptr_t one = (uintptr_t)kept[REG_RDI], other = (uintptr_t)kept[REG_RSI], at = (uintptr_t)it->at;
+    if (it->is_wait)
+        return (pid_t)one == it->which || one == P_ALL || (one == P_PID && (pid_t)other == it->which);
     if (it->fd < 0)
         return one == at || other == at;
     return (int)one == it->fd && other >= at && other - at <= it->size;

@@ -7,6 +7,7 @@
    readv-retried   a readv
    read-polled     a read waits in poll, which is made again
    read-masked     a read waits with all signals blocked
+   wait-retried    a waitpid
 
    Others are right:
 
@@ -23,6 +24,7 @@
 #include <string.h>
 #include <sys/syscall.h>
 #include <sys/uio.h>
+#include <sys/wait.h>
 #include <unistd.h>
 
 static int is_wrong(const char *how)
@@ -76,6 +78,15 @@ ssize_t write(int fd, const void *data, size_t count)
         moved += done > 0 ? (size_t)done : 0;
     } while (is_wrong("write-finished") && done > 0 && moved < count);
     return moved > 0 ? (ssize_t)moved : done;
+}
+
+pid_t waitpid(pid_t which, int *status, int options)
+{
+    long done;
+    do
+        done = syscall(SYS_wait4, which, status, options, NULL);
+    while (is_again(done, "wait-retried"));
+    return (pid_t)done;
 }
 
 int open(const char *name, int flags, ...)

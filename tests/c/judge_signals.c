@@ -1,7 +1,7 @@
 /* Has a process that a signal ends.
 
    usage: judge_signals kills|late|address|child|by-number|aborts|stops|interrupts|jumps
-                        |read|readv|write|open|hears
+                        |read|readv|write|open|hears|awaits|loses
 
    kills    has a child that reads an empty pipe, and kills it
    late     the same, and reads what it writes to the pipe then
@@ -16,7 +16,9 @@
    readv    the same by readv
    write    the same of a write to a pipe that is full
    open     the same of an open of a FIFO
-   hears    reads what is there, with a handler of a signal */
+   hears    reads what is there, with a handler of a signal
+   awaits   has a signal come while it waits for a child, and waits again
+   loses    the same, and a signal ends the child */
 
 #define _DEFAULT_SOURCE
 
@@ -117,6 +119,29 @@ static int makes_again(const char *what)
     return done < 0 || close(ends[1]) || waitpid(child, &status, 0) != child || status != 0;
 }
 
+static int awaits(int is_lost)
+{
+    struct sigaction action;
+    int status;
+    pid_t child, parent = getpid();
+    memset(&action, 0, sizeof action);
+    action.sa_handler = handle;
+    if (sigaction(SIGUSR1, &action, NULL))
+        return 1;
+    child = fork();
+    if (child == 0) {
+        usleep(300000);
+        kill(parent, SIGUSR1);
+        usleep(300000);
+        if (is_lost)
+            raise(SIGKILL);
+        _exit(0);
+    }
+    while (waitpid(child, &status, 0) < 0 && errno == EINTR)
+        continue;
+    return is_lost ? !WIFSIGNALED(status) : status != 0;
+}
+
 static sigjmp_buf before;
 
 static void jump(int number) { siglongjmp(before, number); }
@@ -154,6 +179,8 @@ int main(int count, char **words)
     if (strcmp(what, "interrupts") == 0 && interrupt() != 0)
         return 1;
     if (what[0] && strchr("rwoh", what[0]) && makes_again(what) != 0)
+        return 1;
+    if ((strcmp(what, "awaits") == 0 || strcmp(what, "loses") == 0) && awaits(what[0] == 'l') != 0)
         return 1;
     if (strcmp(what, "aborts") == 0)
         abort();

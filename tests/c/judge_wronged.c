@@ -134,6 +134,17 @@ static void await(void)
     close(ends[1]);
 }
 
+/* A child is killed, and its parent waits for it, and once more. */
+static void await_killed(void)
+{
+    int status;
+    pid_t child = fork();
+    if (child == 0)
+        raise(SIGKILL);
+    waitpid(-1, &status, 0);
+    waitpid(-1, &status, 0);
+}
+
 /* Runs itself again, by two functions, in children. */
 static char *own_path;
 static void run_again(void)
@@ -384,6 +395,9 @@ int main(int count, char **words)
         {"pipe-unsent", break_heard},   {"pipe-blocked", break_heard},
         {"wait-status", await},         {"wait-early", await},
         {"wait-none", await},           {"exec-cut", run_again},
+        {"wait-killed", await_killed},  {"wait-signal", await_killed},
+        {"wait-refused", await_killed}, {"fork-other", await_killed},
+        {"exit-other", await},
         {"end", end},                   {"dup3-same", copy_same},
         {"whence-taken", seek_astray},  {"whence-piped", seek_astray},
         {"end-lost", seek_astray},

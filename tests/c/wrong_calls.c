@@ -25,6 +25,11 @@
    wait-status     waitpid tells that a child has exited with 0
    wait-early      waitpid tells so at once
    wait-none       waitpid is ECHILD
+   wait-killed     waitpid tells that a child that a signal has ended has exited
+   wait-signal     waitpid is EINTR though no handler has run
+   wait-refused    waitpid is EINVAL where there is no child
+   fork-other      fork gives a number that is no child's
+   exit-other      _exit gives another status
    exec-cut        execl and execvp give one word alone
    dup3-same       dup3 of one number twice gives it
    access-refused  access is ENOENT
@@ -189,7 +194,30 @@ pid_t waitpid(pid_t which, int *status, int options)
         done = syscall(SYS_wait4, which, status, options, NULL);
     if (done > 0 && (is_wrong("wait-early") || is_wrong("wait-status")))
         *status = 0;
+    if (done > 0 && WIFSIGNALED(*status) && is_wrong("wait-killed"))
+        *status = (128 + WTERMSIG(*status)) << 8;
+    if (done < 0 && errno == ECHILD && is_wrong("wait-refused"))
+        errno = EINVAL;
+    if (done > 0 && is_wrong("wait-signal")) {
+        errno = EINTR;
+        return -1;
+    }
     return (pid_t)done;
+}
+
+pid_t fork(void)
+{
+    pid_t (*next)(void), made;
+    void *found = dlsym(RTLD_NEXT, "fork");
+    memcpy(&next, &found, sizeof next);
+    made = next();
+    return made > 0 && is_wrong("fork-other") ? made + 1 : made;
+}
+
+void _exit(int status)
+{
+    for (;;)
+        syscall(SYS_exit_group, status + is_wrong("exit-other"));
 }
 
 int execvp(const char *path, char *const list[])

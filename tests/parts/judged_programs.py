@@ -428,6 +428,16 @@ PROGRAMS = [
         for word in ("excl", "appends", "offset", "pipe", "threads")
     ],
     Judged("signals", ("kills",), 0, (WELL, "4 calls of 2 processes: no answer differs", "audit: legal")),
+    Judged(
+        "signals",
+        ("loses",),
+        0,
+        (
+            WELL,
+            "not compared: how a child ended, of which the system told by waitpid",
+            "verdict: agreement in what was compared, which is not all: no answer differs",
+        ),
+    ),
     Judged("signals", ("address",), 3, ("both ended by signal 11", BAD_ADDRESS, "1 call of 1 process")),
     Judged("signals", ("child",), 3, (WELL, BAD_ADDRESS.replace("a crash", "a child's crash"), "3 calls of 2")),
     Judged("signals", ("by-number",), 3, (WELL, BAD_ADDRESS.replace("a crash", "a child's crash"), "3 calls of 2")),
@@ -743,9 +753,14 @@ WRONGED = {
     "pipe-twice": f"{OF_SYSTEM}p0 write: SIGPIPE has come 2 times, where EPIPE has come 1 times",
     "pipe-unsent": f"{OF_SYSTEM}p0 write: SIGPIPE has come 0 times, where EPIPE has come 1 times",
     "pipe-blocked": f"{OF_SYSTEM}p0 write: has changed which signals are blocked",
-    "wait-status": f"{OF_SYSTEM}p0 waitpid: has told that a child has exited with 0, which has with 7",
+    "wait-status": f"{OF_SYSTEM}p0 waitpid: has told that a child has exited with 0, which has called _exit(7)",
     "wait-early": f"{OF_SYSTEM}p0 waitpid: has told the end of a child that is still there",
     "wait-none": f"{OF_SYSTEM}p0 waitpid: has failed, and there is such a child",
+    "wait-killed": f"{OF_SYSTEM}p0 waitpid: has told otherwise how a child has ended",
+    "wait-signal": f"{OF_SYSTEM}p0 waitpid: has failed with EINTR, and no handler has run",
+    "wait-refused": f"{OF_SYSTEM}p0 waitpid: has failed with error 22, and ECHILD is due",
+    "fork-other": f"{OF_SYSTEM}p0 fork: has told the number of no child",
+    "exit-other": f"{OF_SYSTEM}p1 _exit: was called with 7, and the child has ended with 8, as waitpid tells",
     "exec-cut": f"{OF_SYSTEM}p1 execl: has given a program other words",
     "dup3-same": f"{OF_SYSTEM}p0 dup3: has not refused one number twice, or other flags",
     "access-refused": "verdict: a difference: access tells otherwise: system: a = error 2, fdref: a = there",
@@ -808,11 +823,13 @@ GOES_ON_AFTER = [
     ("write-finished", "write", 1, f"{OF_SYSTEM}p0 write: has gone on after signal 10 has cut it short"),
     ("read-polled", "read", 3, NOT_ENDED),
     ("read-masked", "read", 3, NOT_ENDED),
+    ("wait-retried", "awaits", 1, f"{OF_SYSTEM}p0 waitpid: has gone on after signal 10 has ended it"),
     ("signal-before", "hears", 0, AGREES),
     ("signal-after", "hears", 0, AGREES),
     ("none", "read", 3, ENDED),
     ("none", "open", 3, ENDED),
     ("none", "hears", 0, AGREES),
+    ("none", "awaits", 0, AGREES),
 ]
 
 
