@@ -432,7 +432,7 @@ static int64_t gone_closed(const struct going *it, int64_t given)
         struct going going; \
         int given; \
         if (IS_INNER) \
-            return next(fd); \
+            return is_own(fd) ? (int)fails(EBADF) : next(fd); \
         if (is_closed(&going, fd)) \
             return (int)going.done; \
         NEXT_WITHIN(given, next(fd)); \

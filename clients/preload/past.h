@@ -707,16 +707,11 @@ static int is_same(char *const env[], const char *name)
 /* Notes natively which descriptors a new program has or has not otherwise than by FD_CLOEXEC as it was set, each once. */
 static void check_cloexec(const char *what)
 {
-    static char are_told[NUMBERS];
-    char text[40];
     int error = errno;
     for (int fd = 0; is_watching() && is_alone() && !is_doubtful && fd < NUMBERS; fd++) {
         int flags = slots[fd].held == OURS ? system_fcntl(fd, F_GETFD, 0) : -1;
-        if (flags >= 0 && !are_told[fd] && ((flags & FD_CLOEXEC) != 0) != (slots[fd].is_cloexec != 0)) {
-            are_told[fd] = 1;
-            snprintf(text, sizeof text, "%d = %s", fd, slots[fd].is_cloexec ? "kept" : "closed");
-            note_past('!', (uint64_t)log_length(), native_number, "cloexec", what, text);
-        }
+        if (flags >= 0 && !are_flags_told[fd] && ((flags & FD_CLOEXEC) != 0) != (slots[fd].is_cloexec != 0))
+            note_cloexec(what, fd, slots[fd].is_cloexec);
     }
     errno = error;
 }
@@ -773,6 +768,14 @@ static int is_short(char *const list[])
     return count < LISTED_MOST;
 }
 
+/* What a function that runs programs calls before is its own, as a close by FD_CLOEXEC. */
+#define RUN_WITHIN(function, call) \
+    do { \
+        const void *outer = go_in(&function); \
+        done = call; \
+        within = outer; \
+    } while (0)
+
 /* Runs a program by a function that takes the environment of this process, which is another one meanwhile. */
 static int run_here(const char *name, const char *path, char *const list[], char *const env[])
 {
@@ -783,10 +786,10 @@ static int run_here(const char *name, const char *path, char *const list[], char
     memcpy(&environ, &env, sizeof(void *));
     if (name[4] == 'l') {
         find(&listed, name);
-        done = run_listed(listed, path, list, strcmp(name, "execle") == 0 ? env : NULL);
+        RUN_WITHIN(listed, run_listed(listed, path, list, strcmp(name, "execle") == 0 ? env : NULL));
     } else {
         find(&by_list, name);
-        done = by_list(path, list);
+        RUN_WITHIN(by_list, by_list(path, list));
     }
     environ = was;
     return done;
@@ -798,23 +801,23 @@ static int run_in(const struct program *program, char *const list[], char *const
     static int (*sought)(const char *, char *const[], char *const[]);
     static int (*by_fd)(int, char *const[], char *const[]);
     static int (*in)(int, const char *, char *const[], char *const[], int);
-    int is_listed = is_called(program, "execl") || is_called(program, "execlp") || is_called(program, "execle");
+    int is_listed = is_called(program, "execl") || is_called(program, "execlp") || is_called(program, "execle"), done;
     if (is_called(program, "execv") || is_called(program, "execvp") || (is_listed && is_short(list)))
         return run_here(program->what, program->path, list, env);
     if (program->is_sought) {
         find(&sought, "execvpe");
-        return sought(program->path, list, env);
-    }
-    if (!program->path) {
+        RUN_WITHIN(sought, sought(program->path, list, env));
+    } else if (!program->path) {
         find(&by_fd, "fexecve");
-        return by_fd(program->fd, list, env);
-    }
-    if (program->fd != AT_FDCWD || program->flags != 0) {
+        RUN_WITHIN(by_fd, by_fd(program->fd, list, env));
+    } else if (program->fd != AT_FDCWD || program->flags != 0) {
         find(&in, "execveat");
-        return in(program->fd, program->path, list, env, program->flags);
+        RUN_WITHIN(in, in(program->fd, program->path, list, env, program->flags));
+    } else {
+        find(&by_path, "execve");
+        RUN_WITHIN(by_path, by_path(program->path, list, env));
     }
-    find(&by_path, "execve");
-    return by_path(program->path, list, env);
+    return done;
 }
 
 /* A native exec has failed. Where the kernel goes on with the program that is noted by it. */
@@ -832,11 +835,13 @@ static void run_otherwise(const struct program *program, char *const list[], cha
     with[count] = NULL;
 }
 
-static int run(struct program program, char *const list[], char *const env[])
+static int run(struct program program, char *const list[], char *const env[], int is_own)
 {
     char handed[HANDED_MOST], **with;
     int error;
     prepare();
+    if (is_own)
+        return run_in(&program, list, env);
     if (!program.is_sought && is_file(program.path)) {
         leave_out("program", program.what, program.path);
         return (int)fails(ENOSYS);
@@ -869,14 +874,18 @@ static struct program sought(const char *what, const char *path)
     return program;
 }
 
-int execve(const char *path, char *const list[], char *const env[]) { return run(by_path("execve", path), list, env); }
-int execv(const char *path, char *const list[]) { return run(by_path("execv", path), list, environ); }
-int execvp(const char *path, char *const list[]) { return run(sought("execvp", path), list, environ); }
+int execve(const char *path, char *const list[], char *const env[])
+{
+    return run(by_path("execve", path), list, env, IS_INNER);
+}
+
+int execv(const char *path, char *const list[]) { return run(by_path("execv", path), list, environ, IS_INNER); }
+int execvp(const char *path, char *const list[]) { return run(sought("execvp", path), list, environ, IS_INNER); }
 
 int fexecve(int fd, char *const list[], char *const env[])
 {
     struct program program = {"fexecve", NULL, 0, fd, 0};
-    return run(program, list, env);
+    return run(program, list, env, IS_INNER);
 }
 
 /* The functions that list the words are the same with an array of them. */
@@ -886,6 +895,7 @@ int fexecve(int fd, char *const list[], char *const env[])
         static int is_noted; \
         char *list[LIST_MOST], *const *env = environ; \
         size_t count = 0; \
+        int is_own = IS_INNER; \
         prepare(); \
         va_list values; \
         va_start(values, word); \
@@ -895,7 +905,7 @@ int fexecve(int fd, char *const list[], char *const env[])
         va_end(values); \
         if (count >= LISTED_MOST) \
             answers_itself("an execl of more than 31 words", &is_noted); \
-        return list[count] ? (int)fails(E2BIG) : run(how_found(#name, path), list, env); \
+        return list[count] ? (int)fails(E2BIG) : run(how_found(#name, path), list, env, is_own); \
     }
 enum { LIST_MOST = 4096 };
 LISTS(execl, by_path)
@@ -935,13 +945,13 @@ ACTS_PLAINLY(ssignal)
 
 int execvpe(const char *path, char *const list[], char *const env[])
 {
-    return run(sought("execvpe", path), list, env);
+    return run(sought("execvpe", path), list, env, IS_INNER);
 }
 
 int execveat(int in, const char *path, char *const list[], char *const env[], int flags)
 {
     struct program program = {"execveat", path, 0, in, flags};
-    return run(program, list, env);
+    return run(program, list, env, IS_INNER);
 }
 
 FAILS(int, forkpty, (int *terminal, char *name, const struct termios *as, const struct winsize *size),

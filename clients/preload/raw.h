@@ -122,12 +122,12 @@ static int raw_close_range(unsigned first, unsigned last, int flags)
 #endif
 
 /* Whether a call would close what this library has for itself, so that it is made otherwise, or fails. */
-static int is_kept_open(long number, const long *given, long *done)
+static int is_kept_open(long number, const long *given, int is_inside, long *done)
 {
     *done = -1;
 #ifdef SYS_close_range
     if (number == SYS_close_range) {
-        *done = close_between((unsigned)given[0], (unsigned)given[1], (int)given[2], 0, raw_close_range);
+        *done = close_between((unsigned)given[0], (unsigned)given[1], (int)given[2], is_inside, raw_close_range);
         return 1;
     }
 #endif
@@ -166,6 +166,7 @@ long syscall(long number, ...)
     NEXT_OF(syscall);
     const struct raw *raw = raw_of(number);
     long given[MOST_WORDS], done;
+    int is_inside = IS_INNER;
     va_list values;
     va_start(values, number);
     for (int at = 0; at < MOST_WORDS; at++)
@@ -173,9 +174,9 @@ long syscall(long number, ...)
     va_end(values);
     prepare();
     ours = -1;
-    if (!is_off() && is_kept_open(number, given, &done))
+    if (!is_off() && is_kept_open(number, given, is_inside, &done))
         return done;
-    if (how == ASKED && raw && is_told(raw, given) && fails_raw(raw, given))
+    if (how == ASKED && !is_inside && raw && is_told(raw, given) && fails_raw(raw, given))
         return (long)fails(ENOSYS);
     if (takes_rights(number))
         changes_rights("syscall");

@@ -669,10 +669,11 @@ static void begin_natively(void)
 /* ---- from one program to the next
 
    An exec hands the process on in a variable of the environment: its number in the system, its number and place in the
-   run, the descriptors of the connection, or -1, and of what is shared, the table, and the words of the program. */
+   run, the descriptors of the connection, or -1, and of what is shared, whether the table is sure, the table, and the
+   words of the program. */
 
 static const char handed_name[] = "FDREF_HANDED=", failed_name[] = "FDREF_FAILED=";
-enum { HANDED_MOST = 250 + NUMBERS * 30 };
+enum { HANDED_MOST = 250 + NUMBERS * 50 };
 
 /* How many words a program is given, the first one, and the others. */
 struct given_words {
@@ -730,15 +731,55 @@ static void hand_files(int flags)
         system_fcntl(process->socket, F_SETFD, flags);
 }
 
+/* The descriptors of which it was noted that FD_CLOEXEC is otherwise than it was set. */
+static char are_flags_told[NUMBERS];
+
+static void note_cloexec(const char *what, int fd, int is_kept_open)
+{
+    char text[40];
+    are_flags_told[fd] = 1;
+    snprintf(text, sizeof text, "%d = %s", fd, is_kept_open ? "kept" : "closed");
+    note_past('!', (uint64_t)log_length(), native_number, "cloexec", what, text);
+}
+
+/* Whether an exec is to close a descriptor: what the kernel has where that was noted. */
+static int is_closing(int fd)
+{
+    int flags = are_flags_told[fd] ? system_fcntl(fd, F_GETFD, 0) : -1;
+    return flags >= 0 ? (flags & FD_CLOEXEC) != 0 : slots[fd].is_cloexec;
+}
+
+/* The number that the kernel has of the file of a descriptor, or 0 where it is not known. */
+static unsigned long long inode_in_kernel(int fd)
+{
+    struct stat told;
+    int error = errno;
+    memset(&told, 0, sizeof told);
+#ifdef SYS_newfstatat
+    if (system_syscall(SYS_newfstatat, (long)fd, "", &told, (long)AT_EMPTY_PATH) != 0)
+        told.st_ino = 0;
+#endif
+    errno = error;
+    return told.st_ino;
+}
+
+/* What is at a number as an exec begins. Natively it may have been closed where no call is seen. */
+static enum held held_now(int fd)
+{
+    return known[fd] && (how != NATIVE || is_open_in_kernel(fd)) ? slots[fd].held : FREE;
+}
+
 static void put_table(char *to, size_t size, const char *what, char *const list[])
 {
     struct given_words given = {0, 0, 0};
-    int used = snprintf(to, size, "%s%ld %ld %llu %d %d", handed_name, (long)getpid(),
+    int is_sure = is_watching() && is_alone() && !is_doubtful;
+    int used = snprintf(to, size, "%s%ld %ld %llu %d %d %d", handed_name, (long)getpid(),
                         process ? (long)process->number : (long)native_number,
-                        process ? (unsigned long long)process->place : 0, process ? process->socket : -1, shared_file);
+                        process ? (unsigned long long)process->place : 0, process ? process->socket : -1, shared_file,
+                        is_sure);
     for (int fd = 0; fd < NUMBERS; fd++)
-        used += snprintf(to + used, size - (size_t)used, " %d %d %d %llx", known[fd] ? (int)slots[fd].held : FREE,
-                         slots[fd].is_cloexec, slots[fd].is_pipe, (unsigned long long)slots[fd].inode);
+        used += snprintf(to + used, size - (size_t)used, " %d %d %d %llx %llx", (int)held_now(fd), is_closing(fd),
+                         slots[fd].is_pipe, (unsigned long long)slots[fd].inode, inode_in_kernel(fd));
     for (; *list; list++)
         add_word(&given, *list);
     snprintf(to + used, size - (size_t)used, " %d %llx %llx %s", given.count, (unsigned long long)given.first,
@@ -756,6 +797,17 @@ static struct given_words next_words(char **at)
     given.others = strtoull(*at, at, 16);
     *at += **at == ' ';
     return given;
+}
+
+/* Notes natively which descriptors an exec has kept or closed otherwise than by FD_CLOEXEC. Another file may have come
+   to one that it has closed, before this library began. */
+static void check_kept(const char *what, const struct slot *before, const unsigned long long *inodes)
+{
+    for (int fd = 0; fd < NUMBERS; fd++) {
+        int is_open = is_open_in_kernel(fd), is_cloexec = before[fd].is_cloexec != 0;
+        if (before[fd].held == OURS && is_open == is_cloexec && (!is_open || inode_in_kernel(fd) == inodes[fd]))
+            note_cloexec(what, fd, is_cloexec);
+    }
 }
 
 /* What an exec closes is closed in fdref too. Gives whether the program opened the number before this library began. */
@@ -777,14 +829,17 @@ static int take_over(char *at)
 {
     long number;
     unsigned long long place;
-    int connection, are_early[NUMBERS];
+    int connection, is_sure, are_early[NUMBERS];
     struct given_words given;
+    struct slot before[NUMBERS];
+    unsigned long long inodes[NUMBERS];
     if (!at || next_of(&at, 10) != getpid())
         return 0;
     number = (long)next_of(&at, 10);
     place = (unsigned long long)next_of(&at, 10);
     connection = (int)next_of(&at, 10);
     shared_file = (int)next_of(&at, 10);
+    is_sure = (int)next_of(&at, 10);
     map_shared();
     if (how == NATIVE) {
         native_number = (uint32_t)number;
@@ -806,6 +861,8 @@ static int take_over(char *at)
         slot.is_cloexec = (int)next_of(&at, 10);
         slot.is_pipe = (int)next_of(&at, 10);
         slot.inode = (uint64_t)next_of(&at, 16);
+        inodes[fd] = strtoull(at, &at, 16);
+        before[fd] = slot;
         are_early[fd] = take_slot(fd, slot);
     }
     for (int fd = 0; fd < NUMBERS; fd++)
@@ -814,6 +871,8 @@ static int take_over(char *at)
     given = next_words(&at);
     if (is_watching())
         check_words(at, given);
+    if (is_watching() && is_sure)
+        check_kept(at, before, inodes);
     return 1;
 }
 

@@ -61,6 +61,28 @@ ssize_t read(int fd, void *to, size_t count)
     return done;
 }
 
+/* Closes by itself what is not to be kept, and runs a program by another function that is here. */
+int execve(const char *path, char *const list[], char *const env[])
+{
+    for (int fd = 3; fd < 20; fd++)
+        if (fcntl(fd, F_GETFD) == FD_CLOEXEC)
+            close(fd);
+    return (int)syscall(SYS_execve, path, list, env);
+}
+
+int execl(const char *path, const char *word, ...)
+{
+    char *list[8];
+    va_list values;
+    va_start(values, word);
+    memcpy(&list[0], &word, sizeof word);
+    for (int at = 0; at < 7 && list[at];)
+        list[++at] = va_arg(values, char *);
+    va_end(values);
+    look_about(-1);
+    return execve(path, list, environ);
+}
+
 ssize_t write(int fd, const void *data, size_t count)
 {
     look_about(fd);

@@ -404,6 +404,7 @@ int main(int count, char **words)
         {"errno-zeroed", tell_errors},  {"errno-set", tell_errors},
         {"errno-kept", tell_errors},
         {"cloexec-exec", run_with_flags}, {"asks", ask_flags},
+        {"exec-keeps", run_with_flags}, {"exec-closes", run_with_flags},
         {"ino-apart", ask_files},       {"ino-same", ask_files},
         {"fifo-early", open_fifo},
         {"access-refused", ask},        {"read-beyond", take_few},

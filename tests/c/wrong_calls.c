@@ -31,6 +31,8 @@
    fork-other      fork gives a number that is no child's
    exit-other      _exit gives another status
    exec-cut        execl and execvp give one word alone
+   exec-keeps      execve keeps what has FD_CLOEXEC
+   exec-closes     execve closes all from 3 on
    dup3-same       dup3 of one number twice gives it
    access-refused  access is ENOENT
    read-beyond     a read changes a byte beyond its buffer
@@ -218,6 +220,17 @@ void _exit(int status)
 {
     for (;;)
         syscall(SYS_exit_group, status + is_wrong("exit-other"));
+}
+
+int execve(const char *path, char *const list[], char *const env[])
+{
+    for (int fd = 3; fd < 20; fd++) {
+        if (is_wrong("exec-keeps"))
+            fcntl(fd, F_SETFD, 0);
+        if (is_wrong("exec-closes"))
+            close(fd);
+    }
+    return (int)syscall(SYS_execve, path, list, env);
 }
 
 int execvp(const char *path, char *const list[])

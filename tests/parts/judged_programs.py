@@ -709,6 +709,7 @@ MAKES_MORE: list[tuple[str, tuple[str, ...]]] = [
     ("wronged", ("stat-size",)),
     ("wronged", ("wait-status",)),
     ("wronged", ("dup2-zero",)),
+    ("wronged", ("cloexec-exec",)),
 ]
 
 
@@ -762,6 +763,8 @@ WRONGED = {
     "fork-other": f"{OF_SYSTEM}p0 fork: has told the number of no child",
     "exit-other": f"{OF_SYSTEM}p1 _exit: was called with 7, and the child has ended with 8, as waitpid tells",
     "exec-cut": f"{OF_SYSTEM}p1 execl: has given a program other words",
+    "exec-keeps": "1 answer about FD_CLOEXEC differs from what was set: system: p0 execl 5 = kept",
+    "exec-closes": "2 answers about FD_CLOEXEC differ from what was set: system: p0 execl 3 = closed",
     "dup3-same": f"{OF_SYSTEM}p0 dup3: has not refused one number twice, or other flags",
     "access-refused": "verdict: a difference: access tells otherwise: system: a = error 2, fdref: a = there",
     "read-beyond": f"{OF_SYSTEM}p0 read: has changed what is beyond its buffer",
