@@ -366,15 +366,16 @@ class Both(NamedTuple):
 
 # What stands at the end of what native processes share: of each the number of one more than its own, and its call; and
 # before that the exits that they have made.
-INSIDE = struct.Struct("@Q8s")
+INSIDE = struct.Struct("@Q8sqQ")
 EXIT = struct.Struct("@Q")
 INSIDE_MOST = EXITS_MOST = 1024
 
 
 def inside_of(shared: bytes) -> dict[int, str]:
-    """The calls in which native processes are, by their numbers."""
+    """The calls in which native processes are, by their numbers, with a descriptor and a count of bytes."""
     found = INSIDE.iter_unpack(shared[-INSIDE.size * INSIDE_MOST :])
-    return {number - 1: name.rstrip(b"\0").decode("ascii", "replace") for number, name in found if number}
+    said = ((number, name.rstrip(b"\0").decode("ascii", "replace"), *rest) for number, name, *rest in found)
+    return {number - 1: f"{name} {fd} {size}" if fd >= 0 and size else name for number, name, fd, size in said if number}
 
 
 def exited_in(shared: bytes) -> int:
@@ -631,8 +632,20 @@ class Verdict:
         lefts = [it for it in self.compared.partings if not it.system and it.fdref and it.fdref.place.isdigit()]
         lefts = [it for it in lefts if it.fdref and not it.fdref.outcome.startswith(("parked ", "part "))]
         numbers = self.compared.system.numbers
-        is_in = {way: self.both.inside.get(numbers[way], "") for way in numbers}
+        is_in = {way: self.both.inside.get(numbers[way], "").partition(" ")[0] for way in numbers}
         return [it for it in lefts if it.fdref and is_in.get(it.way, "") in SAME_CALLS.get(word_of(it.fdref), ())]
+
+    def told_stuck(self) -> str:
+        """The call in which a process of the system was to the end, and that fdref has answered: that of the system where
+        it is another one."""
+        first, status = self.stuck[0], self.both.system.status
+        number, act = self.compared.system.numbers[first.way], first.fdref.act if first.fdref else ""
+        _, word, *asked = act.split(" ")
+        name, *words = self.both.inside.get(number, "").split(" ")
+        is_other = bool(words) and (words != asked if word == "read" else words[0] != asked[0])
+        act = f"p{number} {name} {' '.join(words)}" if is_other else compare.clipped(act)
+        ended = "which was killed in it" if status is None else f"where {signal_named(-status)} ended it"
+        return f"{act} has not come back on the system, {ended}"
 
     def is_stuck_alone(self) -> bool:
         """Whether the first of these calls had to come back: all that was answered with fdref before it was so on the
@@ -753,7 +766,7 @@ class Verdict:
         """What may be why the two end otherwise, or write something else, though no answer does without a reason."""
         one, other = self.both.system, self.both.fdref
         if self.stuck:
-            return told_stuck(self.stuck[0], one.status)
+            return self.told_stuck()
         descriptor = "1" if one.stdout != other.stdout else "2" if one.stderr != other.stderr else ""
         held = [it for it in self.causes.every if it.kind == past.THREAD and other.status is None]
         cause = next(iter(held), None) or self.causes.of_output(descriptor)
@@ -981,19 +994,12 @@ def told_unexplained(verdict: Verdict) -> str:
     return "; ".join([differ, *told_open(verdict.order)])
 
 
-def told_stuck(parting: Parting, status: int | None) -> str:
-    """The call in which a process of the system was to the end, and that fdref has answered."""
-    act = compare.clipped(parting.fdref.act if parting.fdref else "")
-    ended = "which was killed in it" if status is None else f"where {signal_named(-status)} ended it"
-    return f"{act} has not come back on the system, {ended}"
-
-
 def told_difference(verdict: Verdict) -> str:
     """What status 1 means."""
     if verdict.signals or verdict.looks:
         return [*verdict.signals, *verdict.looks][0]
     if verdict.stuck and verdict.is_stuck_alone():
-        return told_stuck(verdict.stuck[0], verdict.both.system.status)
+        return verdict.told_stuck()
     if verdict.differs_in_calls() and verdict.order and verdict.order.is_found is False:
         return verdict.order.said
     if verdict.differs_in_calls():

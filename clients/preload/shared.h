@@ -12,10 +12,13 @@ struct shared {
     struct named named[NAMED_MOST];
     /* the exits of processes as they make them: the number in the system, and the status after that */
     uint64_t exits[EXITS_MOST];
-    /* the calls that native processes are in which may wait, by their numbers in the system */
+    /* the calls that native processes are in which may wait, by their numbers in the system: with the descriptor, or
+       -1, and how many bytes */
     struct inside {
         uint64_t number;
         char name[8];
+        int64_t fd;
+        uint64_t size;
     } inside[EXITS_MOST];
 };
 static struct shared *shared;
@@ -68,12 +71,14 @@ static const char *ends_by(pid_t pid)
 }
 
 /* Says in which call a process is, which has a number that is one more than its own, or 0 where it is in none. */
-static void say_inside(pid_t pid, uint64_t number, const char *name)
+static void say_inside(pid_t pid, uint64_t number, const char *name, int fd, uint64_t count)
 {
     struct inside *it = &shared->inside[(uint64_t)pid % EXITS_MOST];
     size_t size = strlen(name);
     memset(it->name, 0, sizeof it->name);
     memcpy(it->name, name, size < sizeof it->name ? size : sizeof it->name);
+    it->fd = fd;
+    it->size = count;
     __atomic_store_n(&it->number, number, __ATOMIC_SEQ_CST);
 }
 

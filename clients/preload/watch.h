@@ -195,7 +195,7 @@ static struct masked before_call(const char *name, struct ending *own)
     struct masked before = {is_watching(), runs, {{0}}, own, ending, {0, 0, 0}};
     int error = errno;
     if (before.is_known)
-        say_inside(own_pid, (uint64_t)native_number + 1, name);
+        say_inside(own_pid, (uint64_t)native_number + 1, name, own ? own->fd : -1, own ? own->size : 0);
     if (before.is_known)
         before.is_known = pthread_sigmask(SIG_BLOCK, NULL, &before.signals) == 0;
     ending = before.is_known ? own : NULL;
@@ -233,7 +233,7 @@ static void after_call(const struct masked *before, const char *name, int64_t gi
     if (before->own)
         check_gone_on(before->own, name, given);
     if (is_watching())
-        say_inside(own_pid, 0, "");
+        say_inside(own_pid, 0, "", -1, 0);
     if (before->is_known && before->runs == runs && pthread_sigmask(SIG_BLOCK, NULL, &now) == 0
         && !are_same(&before->signals, &now))
         note_wrong(name, "has changed which signals are blocked");

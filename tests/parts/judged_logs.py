@@ -1071,6 +1071,7 @@ def order_cases(program: str) -> Iterator[Case]:
         yield orders.name, partial(is_ordered, program, orders)
     for exited, status in ((0, 3), (1, 1)):
         yield f"a read that hangs at an end, and {exited} exits", partial(hangs_at_the_end, program, exited, status)
+    yield "another read than fdref's that hangs", partial(hangs_at_the_end, program, 1, 1, "read 2 5")
     yield "the first answer that is not judged", tells_hidden
     yield "a child that a signal ended", tells_signals
     yield "a search that is given up", gives_up
@@ -1557,23 +1558,25 @@ def is_left(noted: str, status: int) -> None:
 STUCK = "a difference: p0 read 0 1 has not come back on the system, which was killed in it"
 
 
-def hangs_at_the_end(program: str, exited: int, status: int) -> None:
+def hangs_at_the_end(program: str, exited: int, status: int, inside: str = "read") -> None:
     """A read that has not come back at the end of a pipe is a difference where its only writer has exited, though nobody
     waited for that; else who comes first may be why."""
     trace = lines_of(f"{A_PIPE}4 p0 close 1 = ok; 5 p1 exit = ok; 6 p0 read 0 1 = x")
     system = as_bytes(native_lines("p0 pipe = 0 1; p0 fork = 1; p0 close 1 = ok"))
     logs = system, as_bytes(logged(trace))
-    both = judge.Both(KILLED, WELL, *logs, trace_of(trace), inside={0: "read"}, exited=exited)
+    both = judge.Both(KILLED, WELL, *logs, trace_of(trace), inside={0: inside}, exited=exited)
     verdict = judge.Verdict(both, "legal 7 rest 0", program=[program])
     same(status, verdict.status())
-    require(status == 3 or judge.told_verdict(verdict) == f"verdict: {STUCK}", judge.told_verdict(verdict))
+    stuck = STUCK.replace("read 0 1", inside if " " in inside else "read 0 1")
+    require(status == 3 or judge.told_verdict(verdict) == f"verdict: {stuck}", judge.told_verdict(verdict))
 
 
 def counts_exits() -> None:
     """Exits are counted in what native processes share, beside the calls in which they are."""
     exits = [0, 5 << 32, 0, 6 << 32 | 7] + 1020 * [0]
-    shared = b"\1" * 64 + b"".join(map(judge.EXIT.pack, exits)) + judge.INSIDE.pack(1, b"read") + bytes(16 * 1023)
-    same((2, {0: "read"}, 0), (judge.exited_in(shared), judge.inside_of(shared), judge.exited_in(b"")))
+    shared = b"\1" * 64 + b"".join(map(judge.EXIT.pack, exits)) + judge.INSIDE.pack(1, b"read", -1, 0)
+    shared += judge.INSIDE.pack(2, b"readv", 3, 5) + bytes(judge.INSIDE.size * 1022)
+    same((2, {0: "read", 1: "readv 3 5"}, 0), (judge.exited_in(shared), judge.inside_of(shared), judge.exited_in(b"")))
 
 
 def is_unlike(log: str) -> None:
