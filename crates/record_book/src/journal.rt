@@ -1,6 +1,6 @@
 //! A book without what its seats count: the records of a run, and how far they lead.
 
-ghost use Rattle.std.specs.Prelude.{◌≡◌, ◌≤◌, ◌+◌, false, true, None, is_some, length, IfOk, OnErr};
+ghost use Rattle.std.specs.Prelude.{◌≡◌, ◌≤◌, ◌+◌, false, true, None, is_some, length, IfErr, IfOk, OnErr};
 ghost use Rattle.std.specs.Arc.{arc_value};
 ghost use Rattle.posix_model.specs.History.{legal};
 ghost use Rattle.posix_model.specs.Kept.{IsSettled};
@@ -74,9 +74,45 @@ fn act_is_short(act: &Act)
     }
 }
 
-/// Allocates a record that will stand at this place, and shares it. An error says that memory ran out.
+/// Puts a record where there is memory for it that nobody else has. Else it is given back.
 #[inline(always)]
-fn shared_at(alloc: Global, place: u64, entry: Record) -> Result<SharedRecord, AllocError>
+fn filled(blank: Option<Arc<Record>>, entry: Record) -> Result<Arc<Record>, Record>
+    ensures item { IfOk result (λ item. arc_value item ≡ entry) }
+    ensures back { IfErr result (λ back. back ≡ entry) }
+{
+    let Some(mut item) = blank else {
+        return Err(entry);
+    };
+    match Arc::get_mut(&mut item) {
+        Some(place) => *place = entry,
+        None => return Err(entry),
+    }
+    Ok(item)
+}
+
+/// Puts a record into memory that was taken for it, or else allocates it. An error says that memory ran out.
+#[inline(always)]
+fn kept_in(
+    alloc: Global,
+    blank: Option<Arc<Record>>,
+    entry: Record,
+) -> Result<Arc<Record>, AllocError>
+    ensures { IfOk result (λ item. arc_value item ≡ entry) }
+{
+    match filled(blank, entry) {
+        Ok(item) => Ok(item),
+        Err(entry) => Ok(Arc::new(alloc, entry)?),
+    }
+}
+
+/// Keeps a record that will stand at this place, and shares it. An error says that memory ran out.
+#[inline(always)]
+fn shared_at(
+    alloc: Global,
+    blank: Option<Arc<Record>>,
+    place: u64,
+    entry: Record,
+) -> Result<SharedRecord, AllocError>
     requires short { IsShortRecord entry }
     ensures item { IfOk result (λ s. arc_value s.item ≡ entry) }
     ensures traced { IfOk result (λ s. arc_value s.traced ≡ entry) }
@@ -84,7 +120,7 @@ fn shared_at(alloc: Global, place: u64, entry: Record) -> Result<SharedRecord, A
     ensures receipt { IfOk result (λ s. s.receipt.record_is ≡ entry) }
     ensures shared { IfOk result (λ s. s.shared ≡ s.receipt) }
 {
-    let item = Arc::new(alloc, entry)?;
+    let item = kept_in(alloc, blank, entry)?;
     let traced = item.clone()?;
     let receipt = Receipt::new(place, item.clone()?);
     let shared = receipt.share()?;
@@ -157,12 +193,14 @@ impl Journal {
 
     ghost use Rattle.record_book.specs.Proved.Appended.{TellsMoved};
 
-    /// Makes the change of a planned act, and appends its record. The act ends no process and does not close the run. If it adds
-    /// a process, all that the exit of that process will need is made too. On an error nothing changes.
+    /// Makes the change of a planned act, and appends its record, in the memory that was taken for it, if there is some. The act ends no
+    /// process and does not close the run. If it adds a process, all that the exit of that process will need is made too. On an error
+    /// nothing changes.
     #[inline(always)]
     pub(crate) fn append(
         &mut self,
         alloc: Global,
+        blank: Option<Arc<Record>>,
         actor: u32,
         act: Act,
         decided: Decided,
@@ -182,7 +220,7 @@ impl Journal {
             act,
             outcome: decided.outcome,
         };
-        let made = shared_at(alloc, place, entry)?;
+        let made = shared_at(alloc, blank, place, entry)?;
         let prepared = prepare_exit(
             alloc,
             &mut self.exits,

@@ -54,6 +54,7 @@ fn open_seat<L: Ledgers>(
         seen,
         receipts,
         shares,
+        blank: None,
     };
     (seat, receipt)
 }
@@ -80,7 +81,8 @@ impl<L: Ledgers> Book<L> {
         self.journal.is_run();
         seat.receipts.reserve(2)?;
         // A match, since `?` would move the record's receipts once more.
-        let appended = match self.journal.append(alloc, seat.pid, act, decided) {
+        let blank = seat.blank.take();
+        let appended = match self.journal.append(alloc, blank, seat.pid, act, decided) {
             Ok(appended) => appended,
             Err(error) => return Err(error),
         };
@@ -108,7 +110,7 @@ impl<L: Ledgers> Book<L> {
         ensures err { OnErr result (self.new ≡ self.old) }
     {
         let receipts = Vec::with_capacity(alloc, 2)?;
-        let appended = match self.journal.append(alloc, actor, act, decided) {
+        let appended = match self.journal.append(alloc, None, actor, act, decided) {
             Ok(appended) => appended,
             Err(error) => return Err(error),
         };

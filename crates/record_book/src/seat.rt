@@ -6,7 +6,8 @@ ghost use Rattle.record_book.specs.Counting.{CountsOwn};
 
 use byte_ledger::ledgers::Ledgers;
 use byte_ledger::tallies::Shares;
-use call_types::act::Record;
+use call_types::act::{Act, Record};
+use call_types::outcome::{Outcome, Reply};
 use std::alloc::{AllocError, Global};
 use std::marker::Model;
 use std::sync::Arc;
@@ -81,14 +82,26 @@ impl<L: Ledgers> AsSeat for SpentSeat<L> {
     ghost as_seat = { λ s. s };
 }
 
+/// Memory for a record that is not known yet, if there is any. What stands there meanwhile does not matter.
+fn blank_record(alloc: Global) -> Option<Arc<Record>> {
+    let blank = Record {
+        actor: 0,
+        act: Act::Exit,
+        outcome: Outcome::Reply(Reply::Done),
+    };
+    Arc::new(alloc, blank).ok()
+}
+
 /// What the connection of a process holds: the number of the process, how many records it has seen, the receipts of its own acts,
-/// and shares that count these acts and the bytes that they took and gave. The type names the ledgers of its book.
+/// and shares that count these acts and the bytes that they took and gave; beside it, perhaps, memory for its next record. The type names
+/// the ledgers of its book.
 #[derive(Drop)]
 pub struct Seat<L: Ledgers> {
     pub(crate) pid: u32,
     pub(crate) seen: u64,
     pub(crate) receipts: Vec<Receipt>,
     pub(crate) shares: Shares<L>,
+    pub(crate) blank: Option<Arc<Record>>,
 }
 
 impl<L: Ledgers> Model for Seat<L> {
@@ -125,6 +138,17 @@ impl<L: Ledgers> Seat<L> {
         ensures own { CountsOwn self.now.counted result.now }
     {
         self.receipts.as_slice()
+    }
+
+    /// Takes memory for the next record, and room for its receipt, where there is memory, so that neither is asked for while others wait for
+    /// the book.
+    pub fn prepare(&mut self, alloc: Global)
+        ensures { self.new ≡ self.old }
+    {
+        if self.blank.is_none() {
+            self.blank = blank_record(alloc);
+        }
+        let _room = self.receipts.reserve(2);
     }
 
     /// Tells the seat of so many records, if it has seen fewer.

@@ -107,6 +107,8 @@ impl<L: Run> Kernel<RunSeat<L>, SpentRunSeat<L>, Front<L>> for SystemLock<L> {
         seat: &mut RunSeat<L>,
         call: Call,
     ) -> Result<Receipt, Refusal> {
+        // so that others wait for no memory
+        seat.prepare(self.alloc);
         let mut system = self.system.lock(rt);
         let told = seat.call(rt, self.alloc, &self.bells, &mut system, call);
         front.catch_up(system.front());

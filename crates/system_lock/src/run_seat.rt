@@ -79,6 +79,13 @@ impl<L: Run> RunSeat<L> {
         self.seat.receipts()
     }
 
+    /// Takes memory for the next record, where there is some.
+    pub(crate) fn prepare(&mut self, alloc: Global)
+        ensures { self.new ≡ self.old }
+    {
+        self.seat.prepare(alloc);
+    }
+
     /// Records a call in a system, and wakes whom it concerns.
     pub(crate) fn call<Rt: Wait>(
         &mut self,

@@ -6,5 +6,5 @@ use Rattle.system_lock.proofs.lock.SystemLockKernelRunSeatSpentRunSeatFront.call
 
 pub returns-clause-refused : goal.returns-clause-refused
 returns-clause-refused g c h p =
-    c.call-told.ensures.refused h (subst (λ (l : List Record). IsPrefix l h) (c.front.ensures ∙ ap (λ (s : SystemState). s.book_is.history) c.deref.ensures)
-    (c.catch_up.ensures.others h p))
+    rw c.prepare.ensures at (c.call-told.ensures.refused h (subst (λ (l : List Record). IsPrefix l h)
+    (c.front.ensures ∙ ap (λ (s : SystemState). s.book_is.history) c.deref.ensures) (c.catch_up.ensures.others h p)))
