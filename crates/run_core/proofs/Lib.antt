@@ -4,3 +4,4 @@ pub mod JoinLemmas
 pub mod JudgedLemmas
 pub mod LeftLemmas
 pub mod StarterLemmas
+pub mod OwnedLemmas

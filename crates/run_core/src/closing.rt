@@ -10,12 +10,12 @@ ghost use Rattle.record_book.specs.Counting.{seats_given};
 ghost use Rattle.run_core.specs.declared.report.RunFault.TheVariants as run_fault;
 ghost use Rattle.run_core.specs.Proved.Closing.{DiffersFor};
 ghost use Rattle.run_core.specs.Proved.Laws.{FlagsDecideAll};
-ghost use Rattle.run_core.specs.Receipts.{Held};
+ghost use Rattle.run_core.specs.Receipts.{GoodAt, Held};
 ghost use Rattle.run_core.specs.Run.{AreAll, ClosesFor, IsClosing, IsGathered, IsLeast, IsRunOf, IsTorn, held_in};
 ghost use Rattle.run_core.specs.Unreported.{UnreportedFor};
 ghost use Rattle.trace_writer.specs.declared.traced.TraceFault.{TraceFault as FaultOfTrace};
 
-use crate::comparison::{HasReceipts, compare};
+use crate::comparison::{HasReceipts, compare, compare_known};
 use crate::report::RunFault;
 use byte_ledger::gather::Missing;
 use byte_ledger::ledgers::Ledgers;
@@ -250,22 +250,24 @@ pub(crate) fn close<L: Ledgers>(book: Book<L>) -> Closed<L>
 }
 
 /// Compares the records of a closed run with the receipts of these holders and of the house, and with what was received: the least place
-/// that does not agree, if there is one.
+/// that does not agree, if there is one. The receipts of the holders are known to be good, so of them only the places are looked at.
 fn compare_with_house<L: Ledgers, T: HasReceipts>(
     alloc: Global,
     closed: &Closed<L>,
     holders: &[T],
     received: &[Arc<Record>],
 ) -> Result<Option<u64>, AllocError>
+    requires owned { (p : ℕ) → GoodAt closed.now.book.history p (map T.held holders.now) }
     ensures is_legal { OnOk result (IsLegalRun closed.now.book.limits.bounds (Some closed.now.book.limits.records) closed.now.book.history) }
     ensures all { IfOk result (λ least. least ≡ None → AreAll closed.now.book.history (map T.held holders.now ++ held_in closed.now.house ∷ []) (map arc_value received.now)) }
     ensures least { IfOk result (λ least. (place : ℕ) → least ≡ Some place → IsLeast closed.now.book.history (map T.held holders.now ++ held_in closed.now.house ∷ []) (map arc_value received.now) place) }
     ensures decided { IfOk result (λ least. least ≡ None → FlagsDecideAll (map arc_value received.now)) }
 {
-    let least = compare(
+    let least = compare_known(
         alloc,
         &closed.book,
         holders,
+        None,
         slice::from_ref(&closed.house),
         received,
     )?;
@@ -281,6 +283,7 @@ fn check_run<L: Ledgers, T: HasReceipts>(
     shares: usize,
     traced: &Traced,
 ) -> Result<(), RunFault>
+    requires owned { (p : ℕ) → GoodAt closed.now.book.history p (map T.held holders.now) }
     ensures is_legal { OnOk result (IsLegalRun closed.now.book.limits.bounds (Some closed.now.book.limits.records) closed.now.book.history) }
     ensures all { OnOk result (AreAll closed.now.book.history (map T.held holders.now ++ held_in closed.now.house ∷ []) (map arc_value traced.now.received.items)) }
     ensures decided { OnOk result (FlagsDecideAll (map arc_value traced.now.received.items)) }
@@ -323,9 +326,9 @@ pub(crate) struct Unended<L: Ledgers> {
     pub(crate) closed: Closed<L>,
 }
 
-/// Ends a run that is closed and whose seats are parted into holders of their receipts and shares. It compares the receipts with the
-/// records and with what was received, and gathers the shares: the number of the records, and of the bytes that they took and gave. The
-/// faults are those of `close_run`, and give the run back.
+/// Ends a run that is closed and whose seats are parted into holders of their receipts, which are good, and shares. It sees that each
+/// record stands in one receipt and was received, and gathers the shares: the number of the records, and of the bytes that they took and
+/// gave. The faults are those of `close_run`, and give the run back.
 pub(crate) fn end_run<L: Ledgers, T: HasReceipts>(
     alloc: Global,
     closed: Closed<L>,
@@ -333,6 +336,7 @@ pub(crate) fn end_run<L: Ledgers, T: HasReceipts>(
     shares: Vec<Shares<L>>,
     traced: &Traced,
 ) -> Result<Sums, Unended<L>>
+    requires owned { (p : ℕ) → GoodAt closed.book.history p (map T.held holders.now) }
     ensures run { IfOk result (λ sums. IsRunOf closed.book.limits sums.records sums.bytes_in sums.bytes_out closed.book closed.house shares.items (map T.held holders.now) (map arc_value traced.now.received.items)) }
     ensures decided { OnOk result (FlagsDecideAll (map arc_value traced.now.received.items)) }
     ensures fault { IfErr result (λ unended. UnreportedFor closed.book (vec_len shares + 1) (map T.held holders.now ++ held_in closed.house ∷ []) traced.now.fault (map arc_value traced.now.received.items) unended.fault) }

@@ -230,13 +230,16 @@ fn records_of<L: Ledgers>(book: &ClosedBook<L>) -> usize
 }
 
 /// The least place that is not sound: one whose record is not in exactly one receipt of all holders, or that a receipt names which is not
-/// good. The records are a legal run.
+/// good; `bad` is the least that such a receipt of the first holders names, if there is one. The records are a legal run.
 fn least_unsound<L: Ledgers, T: HasReceipts, U: HasReceipts>(
     alloc: Global,
     book: &ClosedBook<L>,
     holders: &[T],
+    bad: Option<u64>,
     others: &[U],
 ) -> Result<Option<u64>, AllocError>
+    requires good { (p : ℕ) → IsBefore p bad → GoodAt book.now.history p (map T.held holders.now) }
+    requires bad { IfSome bad (λ p. GoodAt book.now.history p (map T.held holders.now) → ⊥) }
     ensures legal { IsLegalRun book.now.limits.bounds (Some book.now.limits.records) book.now.history }
     ensures sound { IfOk result (λ least. (p : ℕ) → IsBefore p least → IsSound book.now.history (map T.held holders.now ++ map U.held others.now) p) }
     ensures broken { IfOk result (λ least. IfSome least (λ q. IsSound book.now.history (map T.held holders.now ++ map U.held others.now) q → ⊥)) }
@@ -244,7 +247,7 @@ fn least_unsound<L: Ledgers, T: HasReceipts, U: HasReceipts>(
     let records = records_of(book);
     let mut marks = vec![in alloc; 0u8; records]?;
     let uncovered = uncovered(marks.as_mut_slice(), holders, others);
-    let bad = lowest(least_bad_of(book, holders), least_bad_of(book, others));
+    let bad = lowest(bad, least_bad_of(book, others));
     Ok(lowest(uncovered, bad))
 }
 
@@ -278,6 +281,27 @@ fn first_difference<L: Ledgers>(book: &ClosedBook<L>, received: &[Arc<Record>]) 
     None
 }
 
+/// The least place that does not agree, as `compare` finds it. The receipts of the first holders are not compared with the records: `bad` is
+/// the least place that is named by one of them which is not good, if there is one.
+pub(crate) fn compare_known<L: Ledgers, T: HasReceipts, U: HasReceipts>(
+    alloc: Global,
+    book: &ClosedBook<L>,
+    holders: &[T],
+    bad: Option<u64>,
+    others: &[U],
+    received: &[Arc<Record>],
+) -> Result<Option<u64>, AllocError>
+    requires good { (p : ℕ) → IsBefore p bad → GoodAt book.now.history p (map T.held holders.now) }
+    requires bad { IfSome bad (λ p. GoodAt book.now.history p (map T.held holders.now) → ⊥) }
+    ensures legal { IsLegalRun book.now.limits.bounds (Some book.now.limits.records) book.now.history }
+    ensures agree { IfOk result (λ least. (p : ℕ) → IsBefore p least → Agrees book.now.history (map T.held holders.now ++ map U.held others.now) (map arc_value received.now) p) }
+    ensures broken { IfOk result (λ least. IfSome least (λ q. Agrees book.now.history (map T.held holders.now ++ map U.held others.now) (map arc_value received.now) q → ⊥)) }
+    ensures decided { IfOk result (λ least. (p : ℕ) → IsBefore p least → FlagsDecideAt (map arc_value received.now) p) }
+{
+    let unsound = least_unsound(alloc, book, holders, bad, others)?;
+    Ok(lowest(unsound, first_difference(book, received)))
+}
+
 /// The least place that does not agree: one that is not sound, since its record is not in exactly one receipt of all holders or a
 /// receipt names it that is not good, or whose record was not received as the trace thread says. The records are a legal run, as those
 /// of a book are. It takes time in proportion to the receipts and the records, and a byte of memory for each record.
@@ -293,6 +317,6 @@ pub fn compare<L: Ledgers, T: HasReceipts, U: HasReceipts>(
     ensures broken { IfOk result (λ least. IfSome least (λ q. Agrees book.now.history (map T.held holders.now ++ map U.held others.now) (map arc_value received.now) q → ⊥)) }
     ensures decided { IfOk result (λ least. (p : ℕ) → IsBefore p least → FlagsDecideAt (map arc_value received.now) p) }
 {
-    let unsound = least_unsound(alloc, book, holders, others)?;
-    Ok(lowest(unsound, first_difference(book, received)))
+    let bad = least_bad_of(book, holders);
+    compare_known(alloc, book, holders, bad, others, received)
 }

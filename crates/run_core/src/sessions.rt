@@ -7,7 +7,7 @@ ghost use Rattle.rtrb.specs.Ring.{received};
 ghost use Rattle.run_history.specs.Fronts.{Grows, Since};
 ghost use Rattle.run_core.specs.Judged.{IsJudged};
 ghost use Rattle.run_core.specs.Proved.Laws.{FlagsDecideAll};
-ghost use Rattle.run_core.specs.Receipts.{held_by};
+ghost use Rattle.run_core.specs.Receipts.{GoodAt, held_by};
 ghost use Rattle.run_core.specs.Run.{AreShut, IsRun, IsRunOf, IsBlank, IsProcessOf, FailsIfFewer, GivesConnections, ServesSince, CountsItsOwn, held_in, streams, with_seat};
 ghost use Rattle.run_core.specs.Proved.Joining.{HasEnded, IsJoined};
 ghost use Rattle.logged_streams.specs.Streams.{one_more};
@@ -540,13 +540,14 @@ fn unreported<R: Read, W: Write, L: Run, K: Sink>(
     }
 }
 
-/// Compares and gathers what sessions and their trace left.
+/// Compares and gathers what sessions and their trace left. The receipts of the sessions are good.
 #[tactic(auto, using(crate::proofs::StarterLemmas::failures_wanted, crate::proofs::StarterLemmas::no_more_by))]
 fn report_of<R: Read + Drop, W: Write + Drop, L: Run, K: Sink + Drop>(
     alloc: Global,
     ended: Ended<R, W, L>,
     done: Done<K>,
 ) -> Result<Report<R, W, K>, Unreported<R, W, K, L>>
+    requires owned { (p : ℕ) → GoodAt ended.closed.book.history p (map (λ s. held_by s.process) ended.parted.sessions.items) }
     ensures run { IfOk result (λ report. IsRunOf ended.closed.book.limits report.records report.bytes_in report.bytes_out ended.closed.book ended.closed.house ended.parted.shares.items (map (λ s. held_by s.process) ended.parted.sessions.items) (map arc_value done.traced.received.items)) }
     ensures decided { OnOk result (FlagsDecideAll (map arc_value done.traced.received.items)) }
     ensures whole { OnOk result (ended.want ≡ None) }

@@ -21,3 +21,7 @@ returns-clause-least g c =
 
 pub returns-clause-decided : goal.returns-clause-decided
 returns-clause-decided g c = λ none p. c.in_ok-least.ensures.decided p (subst (IsBefore p) (sym none) tt)
+
+-- the receipts of the holders are good, so none of them names a place that is not
+pub compare_known-requires-clause-good : goal.compare_known-requires-clause-good
+compare_known-requires-clause-good g c = λ p before. c.requires.owned p

@@ -9,7 +9,7 @@ returns-clause-sound g c = λ p below.
     let both = c.lowest.ensures.both p below in
     let bad = c.lowest-bad.ensures.both p both.1 in
     record {
-      good = good_joined _ p _ _ (c.least_bad_of.ensures.good p bad.0) (c.least_bad_of-2.ensures.good p bad.1);
+      good = good_joined _ p _ _ (c.requires.good p bad.0) (c.least_bad_of.ensures.good p bad.1);
       covered = c.uncovered-uncovered.ensures.covered p both.0 ∙
           ap (λ len. wanted len p) (c.as_mut_slice.ensures.len ∙ (c.in_ok-marks.ensures.len ∙ c.records_of-records.ensures.count));
     }
@@ -27,6 +27,6 @@ returns-clause-broken g c =
     (neither_holds _ _ _ (λ q. GoodAt c.args.book.now.history q (map g.T.HasReceipts.held c.args.holders.now))
     (λ q. GoodAt c.args.book.now.history q (map g.U.HasReceipts.held c.args.others.now))
     (λ q. GoodAt c.args.book.now.history q (map g.T.HasReceipts.held c.args.holders.now ++ map g.U.HasReceipts.held c.args.others.now))
-    (λ q. IsBefore q c.least_bad_of.result)
-    (λ q all. (good_parted _ q _ _ all).0) (λ q all. (good_parted _ q _ _ all).1) c.lowest-bad.ensures.either c.least_bad_of.ensures.bad
-    c.least_bad_of-2.ensures.bad)
+    (λ q. IsBefore q c.args.bad)
+    (λ q all. (good_parted _ q _ _ all).0) (λ q all. (good_parted _ q _ _ all).1) c.lowest-bad.ensures.either c.requires.bad
+    c.least_bad_of.ensures.bad)

@@ -10,7 +10,17 @@ use Rattle.run_core.specs.declared.sessions.Want.{Want}
 use Rattle.run_core.specs.declared.sessions.Want.TheVariants as want
 use Rattle.run_core.proofs.JoinLemmas.{run_of}
 use Rattle.run_core.proofs.LeftLemmas.{left_is}
+use Rattle.run_core.proofs.OwnedLemmas.{ended_own}
 use Rattle.run_core.proofs.sessions.serve_traced.Goals as goal
+
+pub report_of-requires : goal.report_of-requires
+report_of-requires g c =
+    let ended = c.serve_all-ended.result in
+    record {
+      owned = ended_own g.G.Gate.is_open g.L.Ledgers.limits c.args.limits ended.want (g.S.Source.coming c.args.source.now)
+          (g.S.Source.coming c.serve_all-ended.new.source) ended.closed.book ended.closed.house ended.parted.sessions.items ended.parted.shares.items
+          c.requires.limits c.serve_all-ended.ensures.ended;
+    }
 
 pub returns-clause-run : goal.returns-clause-run
 returns-clause-run g c =

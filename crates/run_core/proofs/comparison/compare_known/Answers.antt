@@ -2,7 +2,7 @@ use Rattle.std.proofs.Common.{◌++◌, map}
 use Rattle.std.specs.Arc.{arc_value}
 use Rattle.run_core.specs.Receipts.{Agrees, IsBefore, IsReceivedAt, IsSound}
 use Rattle.run_core.proofs.ReceiptLemmas.{neither_holds}
-use Rattle.run_core.proofs.comparison.compare.Goals as goal
+use Rattle.run_core.proofs.comparison.compare_known.Goals as goal
 
 -- below both places all agrees
 pub returns-clause-agree : goal.returns-clause-agree
