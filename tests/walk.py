@@ -63,7 +63,7 @@ WALKS = (
         "session_core/src/serve.rt",
         "serve",
         {"Call": "Write", "Act": "Call", "Request": "Call", "FileEdit": "Bytes"},
-        Most(675, 117, 28),
+        Most(680, 117, 28),
         "pump pump_on feed push_all end_of_piece attend take_ready take_calls take_at call_at call start wake_stirred "
         "put_recorded encode_recorded send_ready flush wait_out wait_once finish close_session hang_up",
     ),

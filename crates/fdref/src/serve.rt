@@ -20,6 +20,7 @@ use session_core::starter::Starter;
 use std::alloc::{AllocError, Global};
 use std::io::{Read, Write};
 use std::marker::Brand;
+use std::mem::forget;
 use std::sync::Wait;
 use std::thread::Threads;
 use std::time::Clock;
@@ -132,6 +133,19 @@ fn write_report<R: Read, V: Write, K: Sink, W: Write>(
     }
 }
 
+/// Lets go of what sessions left: their streams are dropped, and their answers and receipts leaked, which the end of the program gives back.
+fn let_go<R: Read + Drop, V: Write + Drop>(sessions: Vec<Session<R, V>>) {
+    for session in sessions {
+        let Session {
+            process,
+            answers,
+            ..
+        } = session;
+        forget(process);
+        forget(answers);
+    }
+}
+
 /// Serves so many sessions within these limits, counted by these ledgers, writes their trace to a sink, and the line of their report.
 fn serve_with<
     Rt: Threads + Wait + Clock + Copy + Drop + Send + Sync + 'static,
@@ -174,9 +188,17 @@ fn serve_with<
         }
     };
     let end = write_report(alloc, &report, sessions, writer);
+    let Report {
+        traced,
+        ends,
+        sink,
+        ..
+    } = report;
+    forget(traced);
+    let_go(ends);
     Served {
         end,
-        sink: Some(report.sink),
+        sink: Some(sink),
     }
 }
 
