@@ -29,11 +29,13 @@ M is above 0.
 
 import concurrent.futures
 import contextlib
+import errno
 import os
 import random
 import re
 import resource
 import select
+import stat
 import sys
 import tempfile
 import threading
@@ -652,13 +654,23 @@ def mistake(program: str, words: Sequence[str], part: str, folder: str) -> None:
     require(not os.listdir(folder), "something was made")
 
 
-def cannot_listen(program: str, path: str) -> None:
+# What is said of a path at which something is: perhaps a socket that a server has left.
+TAKEN = "something is there already; a socket at which no server listens any more may be removed: "
+TAKEN += f"{os.strerror(errno.EADDRINUSE)} (os error {errno.EADDRINUSE})"
+
+
+def is_taken(program: str, path: str) -> None:
+    """A path at which something is already."""
+    cannot_listen(program, path, re.escape(TAKEN.encode()))
+
+
+def cannot_listen(program: str, path: str, cause: bytes = SAID) -> None:
     """A path at which no socket can be made. The trace is made before, and what it held is gone."""
     with tempfile.NamedTemporaryFile(prefix="fdref-") as trace:
         trace.write(b"mine")
         trace.flush()
         words = serve_words(program, path, 1, 9, trace.name)
-        cause = SAID if path else b"an empty path"
+        cause = cause if path else b"an empty path"
         refused(program, words[1:], 4, lambda text: names_cause(text, b"cannot listen\n", path, cause))
         require(os.path.getsize(trace.name) == 0, "the trace is not empty")
 
@@ -668,7 +680,7 @@ def at_a_file(program: str) -> None:
     with tempfile.NamedTemporaryFile(prefix="fdref-") as file:
         file.write(b"mine")
         file.flush()
-        cannot_listen(program, file.name)
+        is_taken(program, file.name)
         with open(file.name, "rb") as again:
             require(again.read() == b"mine", "the file has changed")
 
@@ -677,7 +689,7 @@ def at_a_dangling_link(program: str, folder: str) -> None:
     """A link that leads nowhere is left as it is."""
     path = os.path.join(folder, "link")
     os.symlink(os.path.join(folder, "nowhere"), path)
-    cannot_listen(program, path)
+    is_taken(program, path)
     require(os.listdir(folder) == ["link"], "something was made")
 
 
@@ -685,12 +697,26 @@ def at_a_server(program: str) -> None:
     """Where a server listens already, and where it has listened; the first server is not disturbed."""
     with Server(program, 1) as server:
         client = server.client()
-        cannot_listen(program, server.path)
+        is_taken(program, server.path)
         client.ask("join")
         client.gets("0 0")
         client.vanish()
         server.ended(report(1, 3))
-        cannot_listen(program, server.path)
+        is_taken(program, server.path)
+
+
+def at_a_killed_server(program: str) -> None:
+    """A killed server leaves its socket, which the next one leaves, too. Once it is removed that one serves."""
+    with Server(program, 1) as server:
+        server.client()
+        server.process.kill()
+        server.process.wait()
+        is_taken(program, server.path)
+        require(stat.S_ISSOCK(os.stat(server.path).st_mode), "the socket is gone")
+        os.remove(server.path)
+        process = started(serve_words(program, server.path, 1, 9, server.trace))
+        Client(server.path, process).vanish()
+        same((0, report(1, 1), b""), outcome_of(process))
 
 
 def at_a_long_path(program: str, length: int, is_fit: bool) -> None:
@@ -827,8 +853,9 @@ def system_cases(program: str) -> Iterator[Case]:
     yield from mistakes(program)
     yield "a file at the path", partial(at_a_file, program)
     yield "a server at the path", partial(at_a_server, program)
+    yield "the socket of a killed server at the path", partial(at_a_killed_server, program)
     with tempfile.TemporaryDirectory(prefix="fdref-") as folder:
-        yield "a folder at the path", partial(cannot_listen, program, folder)
+        yield "a folder at the path", partial(is_taken, program, folder)
         yield "a folder that is not there", partial(cannot_listen, program, os.path.join(folder, "no", "socket"))
         yield "a file for a folder", partial(cannot_listen, program, os.path.join(program, "socket"))
         yield "a link to nowhere at the path", partial(at_a_dangling_link, program, folder)

@@ -76,6 +76,16 @@ impl fmt::Display for Causes {
             return Ok(());
         };
         match &*last {
+            // said of a socket alone; whether a server listens there has to know who starts another one
+            Some(
+                Cause {
+                    path,
+                    why: Why::System(error),
+                },
+            ) if error.kind() == io::ErrorKind::AddrInUse => write!(
+                f,
+                "{path}: something is there already; a socket at which no server listens any more may be removed: {error}\n"
+            ),
             Some(
                 Cause {
                     path,
