@@ -13,18 +13,18 @@ Where only an unproved fdref is built that one is taken, which is told.
 
 The program is run twice, each time in an empty folder and with 32 descriptors at most: once with a live server
 that answers its calls in place of the system, and once natively. A library that is loaded before the C library
-(the shim, clients/preload) makes its calls, so it need not be changed. The shim is compiled for this run, by
+(fdref's library, clients/preload) makes its calls, so it need not be changed. It is compiled for this run, by
 $CC or cc, unless --shim names a built one. A statically linked program does not load it, nor one that is given
-another LD_PRELOAD, as by `env LD_PRELOAD=..`. What --preload names is loaded beside it, as a C library under
+another LD_PRELOAD, as by `env LD_PRELOAD=..`. What --preload names is loaded after it, as a C library under
 test, and so is what LD_PRELOAD names before this command: both are for the program alone, and judge.py goes on
 without them. System calls that are made in assembler are not seen at all, and may give a difference without a
 reason. What fdref leaves out goes past it to the system, and is not judged: paths with a slash, folders,
-streams of stdio, other programs. The shim notes what it sees of that, and it is told by kinds, each with the
+streams of stdio, other programs. Fdref's library notes what it sees of that, and it is told by kinds, each with the
 first of it; --keep has all. A difference after it is told to may follow from it: from what has the same name,
 if any, else from the last; one of what is written to a stream, from the first. Under --strict it ends the
 program. Calls that the C library makes inside are not seen: so printf is lost where dup2 puts a file of fdref
-at descriptor 1. Not judged are closefrom, an execl of more than 31 words, and the format of dprintf, which the
-library answers by itself in both runs; that is told. Of a call that waits for nobody, as dup2, it is not seen
+at descriptor 1. Not judged are closefrom, an execl of more than 31 words, and the format of dprintf, which
+fdref's library answers by itself in both runs; that is told. Of a call that waits for nobody, as dup2, it is not seen
 where it blocks a signal alone, but where it blocks all or lets one come. Of threads one makes a call at a time,
 so where one waits the others do, which is told at once on standard error.
 
@@ -32,7 +32,8 @@ Judged are the answers of the system, and not the program: a mistake of it that 
 is agreement.
 
 Told is how both ended, and where they part: the first call whose answer differs and has no reason, else
-the first that differs, after some lines before it and with its reason. The reasons are those of
+the first that differs, after some lines before it and with its reason. Of a process with threads the lines of
+one thread are told side by side, where that has other answers; the first thread to make a call is thread 1. The reasons are those of
 tools/compare.py, who comes first at a pipe, a signal that ends a call, and the size that a file may have.
 With --pipe-capacity 65536 a pipe of fdref holds as much as one of Linux. Each process is compared in the
 order of its own calls. A program that is started by system, popen or posix_spawn has not the descriptors of
@@ -61,7 +62,7 @@ The last line says what the exit status means:
 
 0  both ended by themselves, with the same status, standard output and standard error, each answer is the
    same, or comes by another order of the same calls, and the audit finds the trace legal, whatever went past
-   fdref
+   fdref. What was not compared, as programs that are started, is named after `not compared:`
 1  the answer to the same call differs, or that of F_GETFD, or an exec, from how FD_CLOEXEC was set, and none of
    these may be why: a reason, an order that was not decided on, what is told to go past fdref before it
    (tools/causes.py has what is known to be harmless), a thread that waits and holds its process, a child that a
@@ -69,8 +70,9 @@ The last line says what the exit status means:
    finds a fault. Or a call of the system does what it may not beside its answer: it sets errno to 0, or fails
    without setting it, tells one pipe as two files, opens a FIFO before the other end is opened, blocks other
    signals, SIGPIPE comes otherwise than once with EPIPE, SA_RESTART is set otherwise, it goes on after a signal that
-   ends it (as x86-64 alone tells), a wait tells otherwise of a child than the kernel, an exec gives a program other
-   words, a read changes what is beyond its buffer; or it has not come back to the end
+   ends it (as x86-64 alone tells), a wait tells otherwise of a child than the kernel (which, where a handler ends
+   calls, keeps that from Linux 6.15 on), a fork another number than the child has, F_SETFL sets other flags, an exec
+   gives a program other words, a read changes what is beyond its buffer; or it has not come back to the end
 2  wrong words
 3  not judged: answers differ that have a reason; or one of these may be why; or a process makes another call, so
    that its program went another way, as by the time, a timer, the number of a process, an address or a mode; or
@@ -106,7 +108,7 @@ from pathlib import Path
 from types import FrameType, TracebackType
 from typing import NamedTuple, Self
 
-from support import plain_model
+from support import pages, plain_model
 from support.auditing import Frames
 from support.call_logs import Log, Way, is_wait, word_of
 from support.commands import add_capacity, add_program, capacity_words, program_of
@@ -124,8 +126,9 @@ import compare
 import past
 import preloads
 import some_order
+import thread_lines
 import waits
-from compare_reasons import PAGE, Reason, told_reason
+from compare_reasons import Reason, told_reason
 from handlers import ended_ignoring, signal_named, told_not_ended
 from partings import OF_TIME, Compared, Finding, Parting, agrees, is_of_room
 from standstill import Beside, Standstill, seen_beside
@@ -152,12 +155,12 @@ LEAVES_OUT = "uses what fdref leaves out: "
 WITHIN = b"a call comes while another one of the process waits, as from a handler of a signal"
 TOLD_WITHIN = (
     "a call is made while another one of the same process waits: by a handler of a signal, or after a jump out of one; "
-    "the library cannot do that"
+    "fdref's library cannot do that"
 )
 NO_CALLS = (
-    "made none of the calls that fdref knows, or does not load the shim, or not in time, as a static program, one that "
-    "is built with -fsanitize=address or thread, or one that is given an LD_PRELOAD of its own, as by env: --preload "
-    "adds a library to the shim"
+    "made none of the calls that fdref knows, or does not load fdref's library, or not in time, as a static program, "
+    "one that is built with -fsanitize=address or thread, or one that is given an LD_PRELOAD of its own, as by env: "
+    "--preload adds a library to it"
 )
 # What the shim says where the connection is lost, and what may be why.
 IS_LOST = b"the connection is lost in "
@@ -183,7 +186,7 @@ CRASHES = {
 
 # What may be why the two runs end otherwise.
 BY_ORDER = "the order of the calls"
-BAD_ADDRESS = "a bad address, which is no EFAULT with the shim"
+BAD_ADDRESS = "a bad address, which is no EFAULT with fdref's library"
 UNTOLD = f"{causes.NUMBERS}, or an answer that has no line, as those of stat, access, truncate and fsync"
 OTHER_WAY = "the calls differ, not the answers"
 # The functions that make a call which may wait.
@@ -285,9 +288,9 @@ def built_shim(folder: str) -> str:
     compiler = os.environ.get("CC", "cc")
     path = os.path.join(folder, "libfdref_preload.so")
     if not shutil.which(compiler):
-        raise CannotJudge(f"no C compiler {compiler}: $CC names another one, and --shim a built library")
+        raise CannotJudge(f"no C compiler {compiler}: $CC names another one, and --shim fdref's library as it is built")
     words = [compiler, "-O0", "-shared", "-fPIC", "-o", path, str(SHIM), "-ldl"]
-    ran = run_within(words, f"{compiler} to compile the library", BUILD_SECONDS)
+    ran = run_within(words, f"{compiler} to compile fdref's library", BUILD_SECONDS)
     if ran.status != 0:
         raise CannotJudge(f"{SHIM.relative_to(TOP)} is not compiled: {ran.said()}")
     return path
@@ -322,7 +325,7 @@ def room_of_system() -> int | None:
         os.set_blocking(writing, False)
         size = 0
         while size <= plain_model.PIPE_CAPACITY_MOST:
-            size += os.write(writing, bytes(PAGE))
+            size += os.write(writing, bytes(pages.SIZES[0]))
     except BlockingIOError:
         return size
     finally:
@@ -498,7 +501,7 @@ class Job:
         if any(ALL_TAKEN in text for text in said) and processes_in(trace) >= self.sessions:
             raise CannotJudge(f"has more than {self.sessions} processes in all{MOST_PROCESSES}")
         if fdref.status == NOT_ASKED and said:
-            lost = f"the library ended the program: {said[-1].decode('utf-8', 'replace')}"
+            lost = f"fdref's library ended the program: {said[-1].decode('utf-8', 'replace')}"
             why = [TOLD_LOST] if said[-1].startswith(IS_LOST) else []
             raise NotJudged("; ".join([lost, *why, *past.told_past(past.past_of(self.past("fdref")))]))
         shared = Path(self.folder, "shared")
@@ -575,6 +578,7 @@ class Verdict:
         """Whether some order of the calls of several processes explains the answers of the system."""
         is_killed = self.both.system.status is None or past.signals(self.past) or past.signals(self.native)
         doubt = "a process that was killed" if is_killed else past.doubt(self.past)
+        more = told_killed(self.native + self.past) if is_killed else ""
         doubt = doubt or "".join(it.why() for it in past.made(self.native)[:1])
         if not doubt and past.cuts(self.native):
             doubt = "a call of a thread that the end of its process cut off"
@@ -584,7 +588,7 @@ class Verdict:
         of_end = "" if not is_killed and self.has_only_written() else doubt
         # there are two, one of which is of larger pipes
         with waits.Waiting("an order of the calls that gives all answers of the system", 2 * self.search):
-            return some_order.ordered_of(self.compared, program, doubt, of_end, self.search)
+            return some_order.ordered_of(self.compared, program, doubt, of_end, self.search, more)
 
     def has_only_written(self) -> bool:
         """Whether all that may have changed what fdref does not see has written more, and nothing has read."""
@@ -850,7 +854,7 @@ def told_ends(verdict: Verdict, seconds: float) -> list[str]:
     crash = crash_of(both)
     crashes = [("a crash", crash)] if crash else []
     for who, name in crashes + [("a child's crash", name) for name in verdict.crashes]:
-        why = ": with the shim a bad address is no EFAULT" if name in ("SIGSEGV", "SIGBUS") else ""
+        why = ": with fdref's library a bad address is no EFAULT" if name in ("SIGSEGV", "SIGBUS") else ""
         lines.append(f"{who} ({name}) is no agreement{why}")
     for what, descriptor, one, other in (
         ("output", "1", both.system.stdout, both.fdref.stdout),
@@ -870,6 +874,13 @@ def told_broken_pipes(verdict: Verdict) -> list[str]:
     ends = [ended.status for ended in (verdict.both.system, verdict.both.fdref)]
     is_there = -signal.SIGPIPE in ends or signal.SIGPIPE in past.signals(verdict.past + verdict.native)
     return ["SIGPIPE comes with EPIPE, of a write to a pipe that nobody reads, and ends a process"] if is_there else []
+
+
+def told_killed(every: list[past.Past]) -> str:
+    """Which process a signal ended, as its parent was told first, or nothing where none was."""
+    it = next((it for it in every if it.kind == past.SIGNAL), None)
+    who = it.name or f"a child of p{it.number}" if it else ""
+    return f"{who}, by {signal_named(int(it.call))}" if it else ""
 
 
 def told_firsts(both: Both) -> list[str]:
@@ -912,10 +923,17 @@ def told_started(started: Log) -> list[str]:
     return [f"not compared: {calls} of {programs} that it starts, by system or posix_spawn"] if started.calls else []
 
 
-def told_line(who: str, line: Line | None) -> str:
-    """One side of a parting."""
+def told_line(who: str, line: Line | None, thread: str = "") -> str:
+    """One side of a parting, with its thread where that is told."""
     place = f"{line.place} " if line and line.place.isdigit() else ""
-    return f"{who} {place}{line.act} = {line.outcome}" if line else f"{who} no further call"
+    return f"{who} {place}{line.act} = {line.outcome}{thread}" if line else f"{who} no further call{thread}"
+
+
+def told_sides(compared: Compared, parting: Parting, before: str = "") -> list[str]:
+    """Both sides of a parting: of a process with threads those of one thread, if there are."""
+    sides = thread_lines.sides_of(compared, parting)
+    told = [told_line(f"{before}system:", sides.system, sides.of_system)]
+    return [*told, told_line(f"{before}fdref: ", sides.fdref, sides.of_fdref)]
 
 
 def told_finding(verdict: Verdict, before: int) -> list[str]:
@@ -924,7 +942,7 @@ def told_finding(verdict: Verdict, before: int) -> list[str]:
     parting = finding.parting
     earlier = sorted((int(it.place), it) for it in lines if it.place.isdigit() and int(it.place) < parting.place)
     told = [f"  {line.place} {line.act} = {line.outcome}" for _, line in earlier[max(len(earlier) - before, 0) :]]
-    told += [told_line("system:", parting.system), told_line("fdref: ", parting.fdref)]
+    told += told_sides(verdict.compared, parting)
     is_killed = bool(verdict.causes.killed(parting))
     cause = None if is_killed else verdict.causes.of(finding)
     follows = [compare.clipped(past.told_cause(cause, lines))] if cause else []
@@ -936,7 +954,8 @@ def told_finding(verdict: Verdict, before: int) -> list[str]:
     told += [told_reason(verdict.reason_of(finding)), *told_unended(finding), *follows]
     told += [verdict.order.told()] if verdict.order else []
     why = verdict.cause_of(finding)
-    if not finding.reason and not cause and why:
+    is_decided = verdict.order is not None and verdict.order.is_found is False
+    if not finding.reason and not cause and why and not is_decided:
         told.append(f"perhaps by {why}" if parting.is_same_call() else f"{OTHER_WAY}: perhaps by {why}")
     return told
 
@@ -948,19 +967,33 @@ def told_unended(finding: Finding) -> list[str]:
     return ["no signal explains EINTR: no handler ran then that ends calls"] if is_ended else []
 
 
-def told_hidden(hidden: list[Parting]) -> list[str]:
+def told_hidden(compared: Compared, hidden: list[Parting]) -> list[str]:
     """How many answers may follow from others, and the first of them with both answers."""
-    first = hidden[0]
     told = [f"{len(hidden):8} may follow from these, of which the first is"]
-    told += [told_line("           system:", first.system), told_line("           fdref: ", first.fdref)]
-    return [compare.clipped(line) for line in told]
+    return [compare.clipped(line) for line in [*told, *told_sides(compared, hidden[0], "           ")]]
 
 
 def told_agreement(verdict: Verdict) -> str:
-    """What status 0 means."""
+    """What status 0 means, and what it does not tell of."""
     rest = "" if verdict.is_all_compared() else " in what was compared, which is not all"
-    order = verdict.order
-    return f"agreement{rest}: {order.said if order and order.is_found else 'no answer differs'}"
+    order, others = verdict.order, "; ".join(told_others(verdict))
+    said = order.said if order and order.is_found else "no answer differs"
+    return f"agreement{rest}: {said}{f'; not compared: {others}' if others else ''}"
+
+
+def told_others(verdict: Verdict) -> list[str]:
+    """What was not compared, each kind in a few words: what it is there for has lines of its own."""
+    every, started = verdict.past, verdict.compared.started
+    programs = [it.said(" of ") for it in every if it.kind == past.PROGRAM]
+    count = max(started.programs() if started.calls else 0, len(programs))
+    first = f" (first {compare.clipped(programs[0], 60)})" if programs else ""
+    others = [it for it in past.likely(every) if it.kind != past.PROGRAM]
+    told = [f"what {several(count, 'program')} did that it starts{first}"] if count else []
+    told += ["looks at names"] if verdict.compared.looks() else []
+    told += ["how a child ended"] if past.told_unlooked(verdict.native) else []
+    told += ["calls that fdref's library answers"] if past.told_own(every) else []
+    told += [f"what went past fdref (first {compare.clipped(others[0].said(' of '), 60)})"] if others else []
+    return told
 
 
 def told_reasons(verdict: Verdict) -> str:
@@ -1054,7 +1087,7 @@ def told_counts(verdict: Verdict) -> list[str]:
     reasons = collections.Counter(verdict.reason_of(it) for it in counted)
     lines += [f"{count:8} {it.name} ({it.who}; {it.page})" for it, count in reasons.items() if it]
     hidden = [it.parting for it in counted if it.follows]
-    lines += told_hidden(hidden) if hidden else []
+    lines += told_hidden(verdict.compared, hidden) if hidden else []
     return [*lines, f"{reasons[None] - len(hidden):8} without a reason"]
 
 
@@ -1112,8 +1145,8 @@ def parse(words: Sequence[str]) -> argparse.Namespace:
     )
     add_program(parser)
     add_capacity(parser)
-    parser.add_argument("--shim", metavar="PATH", help="the shim, where it is built already")
-    library = "a library that is loaded into it after the shim; there may be several"
+    parser.add_argument("--shim", metavar="PATH", help="fdref's library, where it is built already")
+    library = "a library that is loaded into the program after fdref's; there may be several"
     parser.add_argument("--preload", metavar="LIB", action="append", default=[], help=library)
     parser.add_argument("--stdin", metavar="FILE", default=os.devnull, help="its standard input, else /dev/null")
     seconds = "how long each of its two runs may take; 60 where no number is given"

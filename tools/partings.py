@@ -8,9 +8,9 @@ import itertools
 from collections.abc import Callable, Iterator, Sequence
 from typing import NamedTuple
 
-from support import plain_model
+from support import pages, plain_model
 from support.auditing import Frames, Judge, act_of
-from support.call_logs import Log, Way, call_of, is_wait, log_of, read_lines, word_of
+from support.call_logs import Log, Way, call_of, is_wait, log_of, read_lines, without_threads, word_of
 from support.counting import require
 from support.plain_model import PIPE_BUF
 from support.runs import Line, line_of
@@ -420,7 +420,7 @@ def may_be_room(it: Difference, room: int | None) -> bool:
     held = len(it.at.pipe.data)
     if moved(it.system) > moved(it.fdref):
         return held + moved(it.system) <= room
-    return held + it.count() > room // 2 - compare_reasons.PAGE
+    return held + it.count() > room // 2 - pages.OF_SYSTEM
 
 
 def is_turned_by(it: Difference, line: Line, story: Story) -> bool:
@@ -523,7 +523,9 @@ class Compared:
         noted: bytes = b"",
         room: int | None = None,
     ) -> None:
-        self.lines, self.noted_lines = read_lines(fdref, "with fdref"), read_lines(system, "on the system")
+        # of each place the thread that made the call, but the first one of its process
+        self.lines, self.threads = without_threads(read_lines(fdref, "with fdref"))
+        self.noted_lines = read_lines(system, "on the system")
         self.system_lines = [line for line in self.noted_lines if not is_wait(line)]
         on_system, with_fdref = log_of(self.system_lines), log_of(self.lines)
         self.processes = len(on_system.calls)

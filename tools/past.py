@@ -193,13 +193,15 @@ def told_past(every: list[Past]) -> list[str]:
 def told_own(every: list[Past]) -> list[str]:
     """Which calls of the program were not judged, since the library answers them by itself."""
     calls = dict.fromkeys(it.call for it in every if it.kind == OWN)
-    return [f"not compared: {', '.join(calls)}, which the library answers by itself in both runs"] if calls else []
+    return [f"not compared: {', '.join(calls)}, which fdref's library answers by itself in both runs"] if calls else []
 
 
 def told_unlooked(native: list[Past]) -> list[str]:
     """Which native waits have told how a child has ended, with which nothing could be compared."""
-    calls = dict.fromkeys(it.call for it in native if it.kind == UNLOOKED)
-    return [f"not compared: how a child ended, of which the system told by {', '.join(calls)}"] if calls else []
+    found = [it for it in native if it.kind == UNLOOKED]
+    calls, why = dict.fromkeys(it.call for it in found), dict.fromkeys(it.name for it in found if it.name)
+    causes = f" ({'; '.join(why)})" if why else ""
+    return [f"not compared: how a child ended, of which the system told by {', '.join(calls)}{causes}"] if calls else []
 
 
 def told_signals(every: list[Past]) -> list[str]:

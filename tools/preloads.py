@@ -18,7 +18,7 @@ OF_SHIM = b"FDREF_HANDED="
 # What the system's loader says of a library that it goes on without.
 UNLOADED = re.compile(rb"cannot be preloaded \(([^)\n]*)\)")
 LOAD_SECONDS = 5
-TOLD_SHIM = "is the library that judge.py loads by itself: it is left out of LD_PRELOAD"
+TOLD_SHIM = "is fdref's library, which judge.py loads by itself: it is left out of LD_PRELOAD"
 
 
 def begin_anew() -> None:
@@ -53,7 +53,7 @@ def unloaded(path: str) -> str:
 def fault_of(path: str) -> str:
     """Why a library that is there is none to load beside the shim, or nothing."""
     if is_shim(path):
-        return f"{path} is the shim, which is loaded anyway: --shim names a built one"
+        return f"{path} is fdref's library, which is loaded anyway: --shim names a built one"
     why = unloaded(path)
     return f"{path} is not loaded by the system: {why}" if why else ""
 

@@ -36,7 +36,8 @@ class ThreadSearch:
         self.seen: set[Place] = set()
         processes = [lane[0].process for lane in lanes]
         self.shared = {process for process in processes if processes.count(process) > 1}
-        self.has_waited = False
+        # the first call that had to wait
+        self.has_waited: Noted | None = None
         self.told = Told(lanes)
 
     def order(self) -> list[tuple[Step, Noted]] | None:
@@ -72,7 +73,7 @@ class ThreadSearch:
                 continue
             goes_on = outcome.startswith(("parked ", "part "))
             if goes_on and noted.process in self.shared:
-                self.has_waited = True
+                self.has_waited = self.has_waited or noted
             elif goes_on or noted.outcome in (UNKNOWN, outcome):
                 begun = (*place.begun[:at], place.begun[at] + (not goes_on), *place.begun[at + 1 :])
                 if goes_on or self.told.may_be(at, begun, self.states.all[state]):

@@ -15,7 +15,8 @@
                         are the same, with `-` in place of the place, and of other threads than the first one to make a
                         call of its process `-1`, `-2` and so on.
      FDREF_STARTS=1     In a native run `@` stands after that, and how many bytes the log had before the call began.
-                        `-@57 p0 wait = 1` is a wait that has told that child 1 had ended.
+                        `-@57 p0 wait = 1` is a wait that has told that child 1 had ended. With a server the places of
+                        other threads than the first one are `7-1`, `8-2` and so on.
      FDREF_STRICT=1     What fdref leaves out is told on standard error, and the program ends with status 125.
      FDREF_PAST=FILE    Each call that is left to the system or fails with ENOSYS, as far as it is seen, is appended to
                         FILE as a line: with the place of the last record of its process, the process, its kind, and
@@ -34,14 +35,16 @@
                         14<tab>ends`, as it sets a handler of signal 14 that ends calls, or `restarts` them, or takes it
                         away (`none`), or as the signal is `ignored`. `- 6 p0 makes socket` is a call that makes a
                         descriptor of the system, from 32 on, where a native run has the lowest that is free. In a
-                        native run ten kinds are there: after `- 0 p0 cut exit` a process ended while others of its
+                        native run eleven kinds are there: after `- 0 p0 cut exit` a process ended while others of its
                         threads may have been in a call; by `! 0 p0 made 3` a descriptor is higher since 3 is open,
                         which no call made that fdref knows; and `signal`, `look`, `handler` and `! 57 p0 cloexec
                         F_GETFD<tab>3 = 0`, with the length of the log in the place of the place: F_GETFD, or F_SETFD,
                         has answered otherwise than by FD_CLOEXEC as this library keeps it, in a process of one thread;
                         after `cloexec execve<tab>3 = kept` or `closed` a new program does not go by it.
                         So is `! 57 p0 wrong write<tab>has changed which signals are blocked`, which no line tells,
-                        `- 57 p0 unended read<tab>10`, which may have waited as a handler ran that ends calls, and
+                        `- 57 p0 unended read<tab>10`, which may have waited as a handler ran that ends calls,
+                        `- 57 p0 unlooked waitpid<tab>the process has threads`, which has told how a child has ended,
+                        with which nothing could be compared, and
                         `- 57 p0 errno read`, which has set errno, and has not failed.
                         There a child has the handlers of its parent once more, and after an exec 0 stands for all
                         signals. After `ends heard` or `restarts heard` this library calls the handler, and notes `- 57
@@ -282,14 +285,15 @@ static int64_t gone_to_lowest(const struct going *it, int64_t given)
 
 /* What follows in a function that may wait, where `given` is what the next one gives. A handler may make calls of its
    own meanwhile, and end this one. */
-#define WITHIN(given, call) \
+#define WITHIN_OF(name, given, call) \
     do { \
         const void *outer = go_in(&next); \
         const struct erring erring = begin_erring(!is_behind); \
         given = call; \
-        end_erring(&erring, __func__, (int64_t)given); \
+        end_erring(&erring, name, (int64_t)given); \
         within = outer; \
     } while (0)
+#define WITHIN(given, call) WITHIN_OF(__func__, given, call)
 #define NEXT_WITHIN(given, call) NEXT_TILL_ENDED(given, call, NULL)
 #define NEXT_TILL_ENDED(given, call, end) \
     do { \

@@ -245,7 +245,9 @@ static int64_t flag_noted(int fd, int command, int argument, int given)
 {
     char text[40];
     int error = errno, is_set = command == F_SETFD, is_fault = given < 0 && errno != EBADF;
-    if (is_alone() && !is_doubtful && (is_fault || (given < 0 ? -1 : given & FD_CLOEXEC) != flag_of(fd, command))) {
+    /* F_SETFD may give any number but -1 */
+    int told = given < 0 ? -1 : is_set ? 0 : given & FD_CLOEXEC;
+    if (is_alone() && !is_doubtful && (is_fault || told != flag_of(fd, command))) {
         snprintf(text, sizeof text, "%d = %s%d", fd, given < 0 ? "error " : "", given < 0 ? error : given);
         note_past('!', (uint64_t)log_length(), native_number, "cloexec", is_set ? "F_SETFD" : "F_GETFD", text);
     }
@@ -298,6 +300,55 @@ static int64_t gone_by(const struct going *it, int command, int argument, int64_
     return it->way == NOTE ? control_noted(it->act.fd, command, argument, (int)given) : given;
 }
 
+/* Asks the kernel whether there is a child, or any: -1, and which one has ended. It may wait for that. */
+static int has_child(pid_t which, siginfo_t *ended, int options)
+{
+    memset(ended, 0, sizeof *ended);
+    return system_syscall(SYS_waitid, (long)(which > 0 ? P_PID : P_ALL), (long)(which > 0 ? which : 0), ended,
+                          (long)(WEXITED | WNOWAIT | options), NULL) == 0;
+}
+
+/* Whether natively no other process and no other thread can have what this one has open: there was never any. */
+static int has_all_alone(void)
+{
+    siginfo_t ended;
+    int error = errno, is_one = is_watching() && is_alone() && native_number == 0 && shared->forks == 0;
+    is_one = is_one && !has_child(-1, &ended, WNOHANG) && errno == ECHILD;
+    errno = error;
+    return is_one;
+}
+
+/* A native F_SETFL: what F_GETFL tells before it, or -1, and how many handlers had run. */
+struct setting {
+    int before;
+    unsigned runs;
+};
+
+/* Notes that F_GETFL tells other flags than those that were to be set: of standard ones, and of those that fdref leaves
+   out no new one. Of O_NONBLOCK that is so of pipes alone. Signals may have come meanwhile. */
+static void check_set(const struct setting *it, int fd, int asked, int after)
+{
+    int set = O_APPEND | (is_pipe_at(fd) ? O_NONBLOCK : 0), wanted = (it->before & O_ACCMODE) | (asked & set);
+    int added = after & ~it->before & ~asked & (LEFT_OUT_FLAGS | O_SYNC | O_DSYNC | O_RSYNC);
+    if (it->runs == runs && after >= 0 && ((after & (O_ACCMODE | set)) != wanted || added != 0))
+        note_wrong("fcntl", "F_SETFL has set other flags than it was asked for, as F_GETFL tells");
+}
+
+/* Makes a native F_SETFL, and asks the same function for the flags before and after that. */
+#define LOOKS_BESIDE(asked, ask_flags, call) \
+    do { \
+        struct setting setting = {-1, runs}; \
+        int given, error = errno; \
+        setting.before = (int)let_in(BEHIND(ask_flags)); \
+        errno = error; \
+        given = (int)let_in(gone_by(&going, F_SETFL, asked, BEHIND(call))); \
+        error = errno; \
+        if (setting.before >= 0 && given >= 0) \
+            check_set(&setting, fd, asked, (int)let_in(BEHIND(ask_flags))); \
+        errno = error; \
+        return given; \
+    } while (0)
+
 #define CONTROLS(name) \
     int name(int fd, int command, ...) \
     { \
@@ -314,6 +365,8 @@ static int64_t gone_by(const struct going *it, int command, int argument, int64_
         number = (int)(intptr_t)argument; \
         if (is_controlled(&going, fd, command, number)) \
             return (int)going.done; \
+        if (going.way == NOTE && is_asked_to_set(command, number) && has_all_alone()) \
+            LOOKS_BESIDE(number, next(fd, F_GETFL, argument), next(fd, command, argument)); \
         if (going.way == NOTE && is_commanded(command)) \
             return (int)let_in(gone_by(&going, command, number, BEHIND(next(fd, command, argument)))); \
         WITHIN(number, next(fd, command, argument)); \
@@ -418,30 +471,114 @@ SYNCS(fdatasync)
 
 /* ---- processes */
 
-/* The children that fork has made last, by the numbers of the system and their own. */
+/* What the kernel tells of a process by a descriptor of it, from Linux 6.15 on also once a wait has told its end: the
+   words that are asked for, and the status. */
+struct told_end {
+    uint64_t asked, group;
+    uint32_t numbers[11];
+    int32_t status;
+};
+enum { STATUS_IS_ASKED = 8, WATCHES = 512 };
+#define ASKS_OF_PROCESS _IOWR(0xff, 11, struct told_end)
+
+/* The children that fork has made last, by the numbers of the system and their own. In a native run a descriptor
+   watches each, where its number is above 0, and the kernel gives the file of that a number. */
 enum { CHILDREN = 64 };
 static struct child {
     pid_t in_system;
     long number;
+    int watch;
+    unsigned long long file;
 } children[CHILDREN];
+
+/* What the program has closed is not closed again. */
+static void unwatch(struct child *it)
+{
+    if (it->watch > 0 && inode_in_kernel(it->watch) == it->file)
+        system_close(it->watch);
+    it->watch = 0;
+}
+
+/* The descriptor has a low number for a moment, which would be seen beside other threads. */
+static void watch(struct child *it)
+{
+#ifdef SYS_pidfd_open
+    struct rlimit was;
+    int made, error = errno;
+    if (!is_watching() || !is_alone())
+        return;
+    was = raise_limit();
+    made = (int)system_syscall(SYS_pidfd_open, (long)it->in_system, 0L);
+    it->watch = made < 0 ? 0 : system_fcntl(made, F_DUPFD_CLOEXEC, WATCHES);
+    it->file = it->watch > 0 ? inode_in_kernel(it->watch) : 0;
+    system_setrlimit(RLIMIT_NOFILE, &was);
+    if (made >= 0)
+        system_close(made);
+    if (it->watch > 0 && it->file == 0)
+        system_close(it->watch);
+    it->watch = it->file == 0 ? 0 : it->watch;
+    errno = error;
+#else
+    (void)it;
+#endif
+}
 
 static void keep_child(pid_t in_system, long number)
 {
     static int kept;
     for (int at = 0; at < CHILDREN; at++)
         children[at].in_system = children[at].in_system == in_system ? 0 : children[at].in_system;
+    unwatch(&children[kept]);
     children[kept].in_system = in_system;
     children[kept].number = number;
+    watch(&children[kept]);
     kept = (kept + 1) % CHILDREN;
 }
 
-/* Its number of its own, or -1 where it is not known. */
-static long number_of(pid_t in_system)
+static struct child *child_of(pid_t in_system)
 {
     int at = 0;
     while (at < CHILDREN && children[at].in_system != in_system)
         at++;
-    return at < CHILDREN ? children[at].number : -1;
+    return at < CHILDREN ? &children[at] : NULL;
+}
+
+/* Its number of its own, or -1 where it is not known. */
+static long number_of(pid_t in_system) { return child_of(in_system) ? child_of(in_system)->number : -1; }
+
+/* The status that the kernel keeps of a child which a wait has told, or -1 where it is not known. */
+static int kept_status(pid_t in_system)
+{
+    struct child *it = child_of(in_system);
+    struct told_end told = {STATUS_IS_ASKED, 0, {0}, 0};
+    int error = errno, is_told;
+    if (!it || it->watch <= 0 || inode_in_kernel(it->watch) != it->file)
+        return -1;
+    is_told = system_syscall(SYS_ioctl, (long)it->watch, (unsigned long)ASKS_OF_PROCESS, &told) == 0;
+    errno = error;
+    return is_told && (told.asked & STATUS_IS_ASKED) != 0 ? told.status & 0xffff : -1;
+}
+
+/* A fork: which one of the run it is, the process that makes it, the parent of that, and its number in a native run. */
+struct forking {
+    uint32_t which, number;
+    pid_t own, parent;
+};
+
+static struct forking begin_forking(void)
+{
+    struct forking it = {__atomic_add_fetch(&shared->forks, 1, __ATOMIC_SEQ_CST), native_number, 0, 0};
+    it.own = (pid_t)system_syscall(SYS_getpid);
+    it.parent = (pid_t)system_syscall(SYS_getppid);
+    return it;
+}
+
+/* Whether this is the child, as the kernel tells, whatever the fork has told. The first processes of two name spaces
+   have the same number. */
+static int is_forked(const struct forking *it, pid_t made)
+{
+    pid_t own = (pid_t)system_syscall(SYS_getpid), parent = (pid_t)system_syscall(SYS_getppid);
+    return own != it->own || (made == 0 && (own == 1 || parent != it->parent));
 }
 
 /* The child is attached first, so that it has an exit of its own, however it ends. */
@@ -449,8 +586,9 @@ static int64_t fork_asked(pid_t (*next)(void))
 {
     int64_t number = ask(fdref_act_fork());
     struct fdref *child;
+    struct forking it = begin_forking();
     pid_t made;
-    int error;
+    int error, is_child;
     if (number < 0)
         return number;
     child = fdref_attach(socket_path, (pid_t)number);
@@ -461,24 +599,19 @@ static int64_t fork_asked(pid_t (*next)(void))
     WITHIN(made, next());
     error = errno;
     is_forking = 0;
-    if (made > 0)
+    is_child = is_forked(&it, made);
+    if (!is_child && made > 0)
         keep_child(made, (long)number);
-    if (made < 0)
+    if (!is_child && made < 0)
         fdref_exit(child);
     else
-        fdref_forget(made == 0 ? process : child);
-    process = made == 0 ? child : process;
+        fdref_forget(is_child ? process : child);
+    if (is_child)
+        forget_threads();
+    process = is_child ? child : process;
     own_pid = getpid();
     errno = error;
     return made;
-}
-
-/* Asks the kernel whether there is a child, or any: -1, and which one has ended. It may wait for that. */
-static int has_child(pid_t which, siginfo_t *ended, int options)
-{
-    memset(ended, 0, sizeof *ended);
-    return system_syscall(SYS_waitid, (long)(which > 0 ? P_PID : P_ALL), (long)(which > 0 ? which : 0), ended,
-                          (long)(WEXITED | WNOWAIT | options), NULL) == 0;
 }
 
 /* Whether the children of this process stay until it waits for them. */
@@ -489,38 +622,77 @@ static int are_kept(void)
            && (action.sa_flags & SA_NOCLDWAIT) == 0;
 }
 
-/* Notes natively that a fork has told a number that is none of its children's. */
-static void check_forked(pid_t made)
+/* Notes natively that a fork has told a number that is none of its children's, and gives whether it was noted. */
+static int check_forked(pid_t made)
 {
     siginfo_t ended;
-    if (is_watching() && is_alone() && are_kept() && !has_child(made, &ended, WNOHANG) && errno == ECHILD)
+    int is_none = is_watching() && is_alone() && are_kept() && !has_child(made, &ended, WNOHANG) && errno == ECHILD;
+    if (is_none)
         note_wrong("fork", "has told the number of no child");
+    return is_none;
+}
+
+/* Notes that the parent was told another number than the child has. */
+static void compare_forked(const struct forking *it, pid_t one, pid_t other)
+{
+    if (is_watching() && one != 0 && other != 0 && one != other)
+        note_past('!', (uint64_t)log_length(), it->number, "wrong", "fork",
+                  "has told the number of another process than its child");
+}
+
+/* Compares natively what a fork has told with what the kernel tells. */
+static void check_told(const struct forking *it, pid_t made, int is_child)
+{
+    pid_t own = (pid_t)system_syscall(SYS_getpid);
+    if (is_child && made != 0 && is_watching())
+        note_past('!', (uint64_t)log_length(), it->number, "wrong", "fork", "has not told the child that it is one");
+    if (!is_child && made == 0)
+        note_wrong("fork", "has told a parent that it is the child");
+    if (is_child && (pid_t)system_syscall(SYS_getppid) == it->own)
+        compare_forked(it, own, say_forked(shared->own_forks, shared->told_forks, it->which, own));
+}
+
+/* This process is the child of a native fork. */
+static void begin_child(uint32_t number)
+{
+    own_pid = getpid();
+    native_number = number;
+    say_exit(own_pid, -1);
+    forget_threads();
+    forget_others();
+    note_handlers();
+    for (int at = 0; at < CHILDREN; at++)
+        unwatch(&children[at]);
+}
+
+static void know_child(const struct forking *it, pid_t made, uint32_t number)
+{
+    if (!check_forked(made))
+        compare_forked(it, made, say_forked(shared->told_forks, shared->own_forks, it->which, made));
+    keep_child(made, (long)number);
 }
 
 static pid_t fork_natively(pid_t (*next)(void))
 {
     struct quiet before = be_quiet();
+    struct forking it = begin_forking();
     uint32_t number;
     pid_t made;
-    int error;
+    int error, is_child;
     begin_call();
     number = __atomic_fetch_add(&shared->next_number, 1, __ATOMIC_SEQ_CST);
-    WITHIN(made, next());
-    if (made == 0) {
-        own_pid = getpid();
-        native_number = number;
-        say_exit(own_pid, -1);
-        forget_threads();
-        forget_others();
-        note_handlers();
-    }
-    if (made > 0)
-        check_forked(made);
-    if (made > 0)
-        keep_child(made, (long)number);
-    if (made < 0)
+    WITHIN_OF("fork", made, next());
+    error = errno;
+    is_child = is_forked(&it, made);
+    check_told(&it, made, is_child);
+    if (is_child)
+        begin_child(number);
+    else if (made > 0)
+        know_child(&it, made, number);
+    else if (made < 0)
         __atomic_fetch_sub(&shared->next_number, 1, __ATOMIC_SEQ_CST);
-    if (made != 0)
+    errno = error;
+    if (!is_child)
         made = (pid_t)ALONE(note(fdref_act_fork(), fdref_number(number), made));
     error = errno;
     end_quiet(before);
@@ -576,40 +748,66 @@ static pid_t ended_child(pid_t child, int status)
 
 /* ---- what a native wait tells, beside what the kernel tells of the children */
 
-/* A wait for a child, or any: -1. What had ended before is known where no other thread or handler waits for it; so it
-   is that there was no child. */
+/* A wait for a child, or any: -1, or one of a group: 0 or below. What had ended before is known where the kernel has told
+   it, and that there was no child where no other thread waits for one. Beside others a handler may have been set while
+   the kernel was asked, which has ended that, and so ends the wait. In one thread the kernel is asked again where a
+   handler has run meanwhile, which may have taken that child. */
 struct waiting {
     const char *name;
     pid_t which, child;
-    int is_known, is_childless, options, code, status;
+    int is_known, is_of_group, is_one, is_childless, is_ended, options, code, status;
     unsigned runs;
 };
 enum { KNOWN_OPTIONS = WNOHANG | WUNTRACED | WCONTINUED };
 
-/* Whether the kernel may be let wait before the system's function does: no handler ends that. */
-static int may_wait(int options)
+static int has_ending_handler(void)
 {
     int number = 1;
     while (number < NSIG && handlings[number] != ENDS_CALLS)
         number++;
-    return options == 0 && number == NSIG;
+    return number < NSIG;
+}
+
+/* Whether the kernel may be let wait before the system's function does: no handler ends that. */
+static int may_wait(int options) { return options == 0 && !has_ending_handler(); }
+
+/* Asks the kernel beside other threads, where a wait may be cancelled. */
+static int has_child_beside(pid_t which, siginfo_t *ended, int options)
+{
+    int kind, done, error;
+    pthread_setcanceltype(PTHREAD_CANCEL_ASYNCHRONOUS, &kind);
+    done = has_child(which, ended, options);
+    error = errno;
+    pthread_setcanceltype(kind, NULL);
+    errno = error;
+    return done;
 }
 
 static struct waiting begin_waiting(const char *name, pid_t which, int options)
 {
-    struct waiting it = {name, which, 0, 0, 0, options, 0, 0, runs};
+    struct waiting it = {name, which, 0, 0, 0, 0, 0, 0, options, 0, 0, runs};
     siginfo_t ended;
-    int error = errno;
-    it.is_known = is_watching() && (which > 0 || which == -1) && (options & ~KNOWN_OPTIONS) == 0;
-    if (it.is_known && is_alone() && has_child(which, &ended, may_wait(options) ? 0 : WNOHANG)) {
+    int error = errno, is_there = 0;
+    int is_seen = is_watching() && (options & ~KNOWN_OPTIONS) == 0;
+    it.is_known = is_seen && (which > 0 || which == -1);
+    it.is_of_group = is_seen && !it.is_known;
+    it.is_one = is_seen && is_alone();
+    if (it.is_known)
+        do {
+            int before = may_wait(options) ? 0 : WNOHANG;
+            it.runs = runs;
+            is_there = it.is_one ? has_child(which, &ended, before) : has_child_beside(which, &ended, before);
+        } while (it.is_one && is_there && it.runs != runs);
+    if (is_there) {
         it.child = ended.si_pid;
         it.code = ended.si_code;
         it.status = ended.si_status;
-    } else if (it.is_known && is_alone()) {
-        it.is_childless = errno == ECHILD;
+    } else if (it.is_known) {
+        it.is_childless = it.is_one && errno == ECHILD;
+        it.is_ended = !it.is_one && errno == EINTR;
     }
     it.runs = runs;
-    errno = error;
+    errno = it.is_ended ? EINTR : error;
     return it;
 }
 
@@ -621,34 +819,21 @@ static int is_status(const struct waiting *it, int status)
     return WIFSIGNALED(status) && WTERMSIG(status) == it->status;
 }
 
-static void check_ended(const struct waiting *it, pid_t child, int status)
+/* What the kernel tells of the end of a child that a wait has told: the same, something else, or nothing that is sure. It
+   keeps the end of the first thread, which may have ended before its process did. */
+enum kept { KEPT_SAME, KEPT_OTHER, KEPT_NONE };
+static enum kept kept_of(const struct waiting *it, pid_t child, int status)
 {
-    char text[100];
-    siginfo_t ended;
-    int said = said_exit(child), is_seen = child == it->child;
-    if (it->which > 0 && child != it->which)
-        note_wrong(it->name, "has told another child than it was asked for");
-    else if (!WIFEXITED(status) && !WIFSIGNALED(status))
-        return;
-    else if (has_child(child, &ended, WNOHANG))
-        note_wrong(it->name, "has told the end of a child that is still there");
-    else if (WIFEXITED(status) && said >= 0 && WEXITSTATUS(status) != said) {
-        /* where the kernel has told the same, the other function is wrong */
-        int is_right = is_seen && is_status(it, status);
-        if (is_right)
-            snprintf(text, sizeof text, "was called with %d, and the child has ended with %d, as %s tells", said,
-                     WEXITSTATUS(status), it->name);
-        else
-            snprintf(text, sizeof text, "has told that a child has exited with %d, which has called %s(%d)",
-                     WEXITSTATUS(status), ends_by(child), said);
-        if (is_right && number_of(child) >= 0)
-            note_past('!', (uint64_t)log_length(), (uint32_t)number_of(child), "wrong", ends_by(child), text);
-        else
-            note_wrong(is_right ? ends_by(child) : it->name, text);
-    } else if (is_seen && !is_status(it, status))
-        note_wrong(it->name, "has told otherwise how a child has ended");
-    else if (!is_seen && (said < 0 || WIFSIGNALED(status)))
-        notes("unlooked", it->name, NULL);
+    int kept = kept_status(child), said = said_exit(child);
+    if (child == it->child)
+        return is_status(it, status) ? KEPT_SAME : KEPT_OTHER;
+    if (kept < 0)
+        return KEPT_NONE;
+    if (WIFSIGNALED(kept))
+        return WIFSIGNALED(status) && WTERMSIG(status) == WTERMSIG(kept) ? KEPT_SAME : KEPT_OTHER;
+    if (WIFEXITED(status) && WEXITSTATUS(status) == WEXITSTATUS(kept))
+        return KEPT_SAME;
+    return said == WEXITSTATUS(kept) && (said > 0 || ends_by_itself(child)) ? KEPT_OTHER : KEPT_NONE;
 }
 
 /* Whether a handler may have run that this library has not called. */
@@ -660,6 +845,76 @@ static int is_heard_elsewhere(void)
                              || now.sa_handler == SIG_DFL || now.sa_handler == SIG_IGN))
         number++;
     return number < NSIG;
+}
+
+/* Whether the kernel has told a child that had ended. One that is traced may have stopped. */
+static int has_found_end(const struct waiting *it)
+{
+    return it->child > 0 && (it->code == CLD_EXITED || it->code == CLD_KILLED || it->code == CLD_DUMPED);
+}
+
+/* Whether what a wait has told is no child: it is this process itself, or another one than the child that the wait has
+   taken. In one thread nothing but the wait and handlers takes any. */
+static int is_no_child(const struct waiting *it, pid_t child)
+{
+    siginfo_t ended;
+    if (child == (pid_t)system_syscall(SYS_getpid))
+        return 1;
+    return it->is_one && has_found_end(it) && child != it->child && it->runs == runs && !is_heard_elsewhere()
+           && !has_child(it->child, &ended, WNOHANG) && errno == ECHILD;
+}
+
+/* Why the kernel has told nothing of the end of a child. */
+static const char *why_unlooked(const struct waiting *it)
+{
+    if (it->is_of_group)
+        return "a group is waited for";
+    if (!it->is_one)
+        return "the process has threads";
+    return has_ending_handler() ? "a handler is set that ends calls" : "it ended meanwhile";
+}
+
+static void check_ended(const struct waiting *it, pid_t child, int status)
+{
+    char text[100];
+    siginfo_t ended;
+    int said = said_exit(child);
+    enum kept kept = KEPT_NONE;
+    if (it->which > 0 && child != it->which) {
+        note_wrong(it->name, "has told another child than it was asked for");
+        return;
+    }
+    if (is_no_child(it, child)) {
+        note_wrong(it->name, "has told a process that is no child");
+        return;
+    }
+    if (!WIFEXITED(status) && !WIFSIGNALED(status)) {
+        if (has_found_end(it) && child == it->child)
+            note_wrong(it->name, "has told no end of a child that has ended");
+        return;
+    }
+    if (has_child(child, &ended, WNOHANG)) {
+        note_wrong(it->name, "has told the end of a child that is still there");
+        return;
+    }
+    kept = kept_of(it, child, status);
+    if (WIFEXITED(status) && said >= 0 && WEXITSTATUS(status) != said) {
+        /* where the kernel has told the same, the other function is wrong */
+        int is_right = kept == KEPT_SAME;
+        if (is_right)
+            snprintf(text, sizeof text, "was called with %d, and the child has ended with %d, as %s tells", said,
+                     WEXITSTATUS(status), it->name);
+        else
+            snprintf(text, sizeof text, "has told that a child has exited with %d, which has called %s(%d)",
+                     WEXITSTATUS(status), ends_by(child), said);
+        if (is_right && number_of(child) >= 0)
+            note_past('!', (uint64_t)log_length(), (uint32_t)number_of(child), "wrong", ends_by(child), text);
+        else
+            note_wrong(is_right ? ends_by(child) : it->name, text);
+    } else if (kept == KEPT_OTHER)
+        note_wrong(it->name, "has told otherwise how a child has ended");
+    else if (kept == KEPT_NONE && (said < 0 || WIFSIGNALED(status)))
+        notes("unlooked", it->name, why_unlooked(it));
 }
 
 static void check_failed(const struct waiting *it, int error)
@@ -681,11 +936,11 @@ static void check_wait(const struct waiting *it, pid_t child, int status)
     int error = errno;
     if (it->is_known && it->is_childless && child >= 0 && it->runs == runs)
         note_wrong(it->name, "has not failed, and there is no such child");
-    else if (it->is_known && child > 0)
+    else if ((it->is_known || it->is_of_group) && child > 0)
         check_ended(it, child, status);
     else if (it->is_known && child == 0 && (it->options & WNOHANG) == 0)
         note_wrong(it->name, "has told of no child, without WNOHANG");
-    else if (it->is_known && child == 0 && it->child > 0 && it->runs == runs)
+    else if (it->is_known && it->is_one && child == 0 && it->child > 0 && it->runs == runs)
         note_wrong(it->name, "has told of no child, and one has ended");
     else if (it->is_known && child < 0)
         check_failed(it, error);
@@ -722,6 +977,8 @@ static struct ending *begin_ending(struct ending *own, pid_t which)
             return next words; \
         prepare(); \
         waiting = begin_waiting(#name, which, options); \
+        if (waiting.is_ended) \
+            return -1; \
         WAITING(child, which, next words); \
         check_wait(&waiting, child, child > 0 ? *status : 0); \
         return child > 0 ? ended_child(child, *status) : child; \
@@ -744,8 +1001,13 @@ int waitid(idtype_t kind, id_t which, siginfo_t *given, int options)
         return next(kind, which, given, options);
     prepare();
     memset(&own, 0, sizeof own);
-    waiting = begin_waiting("waitid", kind == P_PID ? (pid_t)which : kind == P_ALL ? -1 : 0, options & ~WEXITED);
-    waiting.is_known = waiting.is_known && (options & (WEXITED | WNOWAIT)) == WEXITED;
+    /* without WEXITED no end is waited for */
+    waiting = begin_waiting("waitid", kind == P_PID ? (pid_t)which : kind == P_ALL ? -1 : 0,
+                            options & WEXITED ? options & ~WEXITED : options | WNOHANG);
+    if (waiting.is_ended)
+        return -1;
+    if ((options & (WEXITED | WNOWAIT)) != WEXITED)
+        waiting.is_known = waiting.is_of_group = 0;
     WAITING(done, (pid_t)which, next(kind, which, to, options));
     is_ended = done == 0 && to->si_pid > 0
                && (to->si_code == CLD_EXITED || to->si_code == CLD_KILLED || to->si_code == CLD_DUMPED);

@@ -8,7 +8,9 @@ struct named {
 };
 enum { NAMED_MOST = 4096, EXITS_MOST = 1024 };
 struct shared {
-    uint32_t next_number;
+    uint32_t next_number, forks;
+    /* of each fork, by which one of the run it is: the number that its parent was told, and the one that its child has */
+    uint64_t told_forks[EXITS_MOST], own_forks[EXITS_MOST];
     struct named named[NAMED_MOST];
     /* the exits of processes as they make them: the number in the system, and the status after that */
     uint64_t exits[EXITS_MOST];
@@ -49,8 +51,9 @@ static void begin_sharing(void)
 
 static uint64_t *exit_of(pid_t pid) { return &shared->exits[(uint64_t)pid % EXITS_MOST]; }
 
-/* Says that this process exits with a status, to which AT_ONCE is added by _exit; or that it is there, below 0. */
-enum { AT_ONCE = 256 };
+/* Says that this process exits with a status, to which AT_ONCE is added by _exit, and BY_ITSELF where it has one thread;
+   or that it is there, below 0. */
+enum { AT_ONCE = 256, BY_ITSELF = 512 };
 static void say_exit(pid_t pid, int status)
 {
     uint64_t said = status < 0 ? 0 : (uint64_t)pid << 32 | (uint64_t)status;
@@ -64,10 +67,26 @@ static int said_exit(pid_t pid)
     return said >> 32 == (uint64_t)pid ? (int)(said & 255) : -1;
 }
 
-/* The function by which it has said so. */
+/* The function by which it has said so, and whether it had one thread then. */
 static const char *ends_by(pid_t pid)
 {
     return (__atomic_load_n(exit_of(pid), __ATOMIC_SEQ_CST) & AT_ONCE) != 0 ? "_exit" : "exit";
+}
+
+static int ends_by_itself(pid_t pid) { return (__atomic_load_n(exit_of(pid), __ATOMIC_SEQ_CST) & BY_ITSELF) != 0; }
+
+/* ---- forks
+
+   A parent is told the number of its child, which the child has from the kernel. Each of the two says what it knows, and
+   the one that is second knows both. */
+
+/* Says a number of one fork in its place, and gives what stands in the other one, or 0 where nothing does yet. */
+static pid_t say_forked(uint64_t *own, const uint64_t *other, uint32_t which, pid_t number)
+{
+    uint64_t said;
+    __atomic_store_n(&own[which % EXITS_MOST], (uint64_t)which << 32 | (uint32_t)number, __ATOMIC_SEQ_CST);
+    said = __atomic_load_n(&other[which % EXITS_MOST], __ATOMIC_SEQ_CST);
+    return said >> 32 == which ? (pid_t)(uint32_t)said : 0;
 }
 
 /* Says in which call a process is, which has a number that is one more than its own, or 0 where it is in none. */

@@ -515,8 +515,7 @@ static void put_outcome(const struct fdref_outcome *outcome)
     }
 }
 
-/* Which thread of its process this one is, of those that have a line of a native run, from 1 on; and how many of these
-   have not ended. */
+/* Which thread of its process this one is, of those that have a line, from 1 on; and how many of these have not ended. */
 static __thread int thread_number;
 static int threads, live_threads;
 static pthread_key_t ends_with_thread;
@@ -572,18 +571,32 @@ static void begin_call(void)
     errno = error;
 }
 
-/* What stands in the place of the place: `-`, and in a native run the number of a thread but the first one after it. */
+/* The number of a thread but the first one. */
+static void put_thread(const char *before)
+{
+    if (!thread_number)
+        number_thread();
+    if (thread_number > 1)
+        put("%s%d", before, thread_number - 1);
+}
+
+/* What stands in the place of the place: `-`, and in a native run the number of a thread after it. */
 static void put_no_place(void)
 {
     put("-");
     if (how != NATIVE)
         return;
-    if (!thread_number)
-        number_thread();
-    if (thread_number > 1)
-        put("%d", thread_number - 1);
+    put_thread("");
     if (tells_starts)
         put("@%lld", (long long)began);
+}
+
+/* The place of a record, after which a thread may be told. */
+static void put_place(uint64_t place)
+{
+    put("%llu", (unsigned long long)place);
+    if (how == ASKED && tells_starts)
+        put_thread("-");
 }
 
 /* Appends to a native log whose lines tell when calls began that a wait has told that a child had ended. */
@@ -605,7 +618,7 @@ static void log_line(const uint64_t *place, struct fdref_act act, const struct f
         return;
     line_size = 0;
     if (place)
-        put("%llu", (unsigned long long)*place);
+        put_place(*place);
     else
         put_no_place();
     put(" p%lu %s", (unsigned long)(process ? (uint32_t)process->number : native_number),

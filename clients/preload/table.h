@@ -589,7 +589,7 @@ static void end(void)
 static void tell_exit(int status, int is_at_once)
 {
     if (how == NATIVE && own_pid == getpid())
-        say_exit(own_pid, (status & 255) | (is_at_once ? AT_ONCE : 0));
+        say_exit(own_pid, (status & 255) | (is_at_once ? AT_ONCE : 0) | (is_alone() ? BY_ITSELF : 0));
 }
 
 #ifdef __GLIBC__
@@ -908,7 +908,7 @@ static void prepare(void)
     is_size_limited = system_getrlimit(RLIMIT_FSIZE, &size) == 0 && size.rlim_cur != RLIM_INFINITY;
     if (log_named)
         log_file = opened_log(log_named);
-    if (how == NATIVE)
+    if (how == NATIVE || how == ASKED)
         pthread_key_create(&ends_with_thread, thread_ends);
     if ((how == ASKED || how == NATIVE) && past_named)
         past_file = opened_log(past_named);

@@ -1,7 +1,7 @@
 /* Has a process that a signal ends.
 
    usage: judge_signals kills|late|address|child|by-number|aborts|stops|interrupts|jumps
-                        |read|readv|write|open|hears|awaits|loses
+                        |read|readv|write|open|hears|awaits|loses|loses-beside|cancels-wait|ends-wait
 
    kills    has a child that reads an empty pipe, and kills it
    late     the same, and reads what it writes to the pipe then
@@ -18,12 +18,16 @@
    open     the same of an open of a FIFO
    hears    reads what is there, with a handler of a signal
    awaits   has a signal come while it waits for a child, and waits again
-   loses    the same, and a signal ends the child */
+   loses    the same, and a signal ends the child
+   loses-beside  the same beside a thread, which was there before the child
+   cancels-wait  cancels a thread that waits for a child
+   ends-wait     sets a handler and sends its signal to a thread that waits for a child already */
 
 #define _DEFAULT_SOURCE
 
 #include <errno.h>
 #include <fcntl.h>
+#include <pthread.h>
 #include <setjmp.h>
 #include <signal.h>
 #include <stdint.h>
@@ -142,6 +146,53 @@ static int awaits(int is_lost)
     return is_lost ? !WIFSIGNALED(status) : status != 0;
 }
 
+static volatile int is_over;
+
+static void *stay(void *unused)
+{
+    while (!is_over)
+        usleep(1000);
+    return unused;
+}
+
+static int awaits_beside(void)
+{
+    pthread_t thread;
+    int failures = pthread_create(&thread, NULL, stay, NULL) != 0 || awaits(1) != 0;
+    is_over = 1;
+    return failures || pthread_join(thread, NULL) != 0;
+}
+
+static pid_t awaited;
+
+/* Gives an address if a signal has ended the wait. */
+static void *await_one(void *address)
+{
+    int status;
+    return waitpid(awaited, &status, 0) < 0 && errno == EINTR ? address : NULL;
+}
+
+static int leaves_wait(int is_cancelled)
+{
+    struct sigaction action;
+    pthread_t thread;
+    void *given;
+    int status, failures;
+    awaited = fork();
+    while (awaited == 0)
+        pause();
+    if (pthread_create(&thread, NULL, await_one, &awaited) != 0)
+        return 1;
+    usleep(300000);
+    memset(&action, 0, sizeof action);
+    action.sa_handler = handle;
+    failures = is_cancelled ? pthread_cancel(thread)
+                            : sigaction(SIGUSR1, &action, NULL) || pthread_kill(thread, SIGUSR1);
+    if (pthread_join(thread, &given) != 0 || given != (is_cancelled ? PTHREAD_CANCELED : (void *)&awaited))
+        return 1;
+    return failures || kill(awaited, SIGKILL) != 0 || waitpid(awaited, &status, 0) != awaited || !WIFSIGNALED(status);
+}
+
 static sigjmp_buf before;
 
 static void jump(int number) { siglongjmp(before, number); }
@@ -181,6 +232,10 @@ int main(int count, char **words)
     if (what[0] && strchr("rwoh", what[0]) && makes_again(what) != 0)
         return 1;
     if ((strcmp(what, "awaits") == 0 || strcmp(what, "loses") == 0) && awaits(what[0] == 'l') != 0)
+        return 1;
+    if (strcmp(what, "loses-beside") == 0 && awaits_beside() != 0)
+        return 1;
+    if ((strcmp(what, "cancels-wait") == 0 || strcmp(what, "ends-wait") == 0) && leaves_wait(what[0] == 'c') != 0)
         return 1;
     if (strcmp(what, "aborts") == 0)
         abort();

@@ -145,6 +145,224 @@ static void await_killed(void)
     waitpid(-1, &status, 0);
 }
 
+static void hear(int number);
+
+/* A child is killed after a while, with a handler here that ends calls. */
+static void await_heard(void)
+{
+    struct sigaction action;
+    int status;
+    memset(&action, 0, sizeof action);
+    action.sa_handler = hear;
+    sigaction(SIGUSR1, &action, NULL);
+    if (fork() == 0) {
+        usleep(300000);
+        raise(SIGKILL);
+    }
+    waitpid(-1, &status, 0);
+}
+
+/* Any child of this group is waited for. */
+static void await_group(void)
+{
+    int status;
+    if (fork() == 0)
+        raise(SIGKILL);
+    waitpid(0, &status, 0);
+}
+
+/* It is asked for again and again. */
+static void await_asked(void)
+{
+    int status;
+    if (fork() == 0) {
+        usleep(300000);
+        raise(SIGKILL);
+    }
+    while (waitpid(-1, &status, WNOHANG) == 0)
+        usleep(1000);
+}
+
+/* A thread waits until the writing end of the pipe is closed. */
+static void *stay(void *data)
+{
+    while (ends[1] >= 0)
+        usleep(10000);
+    return data;
+}
+
+/* The same beside a thread. */
+static void await_beside(void)
+{
+    pthread_t thread;
+    int status;
+    if (pthread_create(&thread, NULL, stay, NULL) != 0)
+        exit(1);
+    if (fork() == 0) {
+        usleep(100000);
+        raise(SIGKILL);
+    }
+    waitpid(-1, &status, 0);
+    close(ends[1]);
+    ends[1] = -1;
+    pthread_join(thread, NULL);
+}
+
+/* A child exits with a status, and each wait for any takes it. */
+static void leave(void)
+{
+    if (fork() == 0)
+        _exit(7);
+}
+
+static void await_one(void)
+{
+    int status;
+    leave();
+    wait(&status);
+}
+
+static void await_any(void)
+{
+    int status;
+    leave();
+    waitpid(-1, &status, 0);
+}
+
+static void await_used(void)
+{
+    int status;
+    leave();
+    wait4(-1, &status, 0, NULL);
+}
+
+static void await_told(void)
+{
+    siginfo_t told;
+    leave();
+    waitid(P_ALL, 0, &told, WEXITED);
+}
+
+/* The same beside a thread. */
+static void await_self_beside(void)
+{
+    pthread_t thread;
+    if (pthread_create(&thread, NULL, stay, NULL) != 0)
+        exit(1);
+    await_one();
+    close(ends[1]);
+    ends[1] = -1;
+    pthread_join(thread, NULL);
+}
+
+/* What is in the status before is the status of no child. */
+static void await_status(void)
+{
+    int status = -1;
+    leave();
+    waitpid(-1, &status, 0);
+}
+
+/* The rest is right in itself. Children end beside a wait, and it or a handler takes each. */
+static void take_ended(int number)
+{
+    int error = errno, status;
+    while (number == SIGCHLD && waitpid(-1, &status, WNOHANG) > 0)
+        continue;
+    errno = error;
+}
+
+static void await_handled(void)
+{
+    struct sigaction action;
+    memset(&action, 0, sizeof action);
+    action.sa_handler = take_ended;
+    action.sa_flags = SA_RESTART;
+    sigaction(SIGCHLD, &action, NULL);
+    for (int at = 0; at < 3; at++)
+        leave();
+    while (wait(NULL) > 0)
+        continue;
+}
+
+static void *take_all(void *data)
+{
+    while (wait(NULL) > 0)
+        continue;
+    return data;
+}
+
+/* Each of two threads takes what it finds. */
+static void await_by_two(void)
+{
+    pthread_t threads[2];
+    for (int at = 0; at < 3; at++)
+        leave();
+    for (int at = 0; at < 2; at++)
+        if (pthread_create(&threads[at], NULL, take_all, NULL) != 0)
+            exit(1);
+    for (int at = 0; at < 2; at++)
+        pthread_join(threads[at], NULL);
+}
+
+/* A child stops, goes on, and ends once it has read a byte, beside another one that has ended. */
+static void await_stopped(void)
+{
+    int status;
+    pid_t child = fork();
+    if (child == 0) {
+        raise(SIGSTOP);
+        _exit((int)read(ends[0], bytes, 1));
+    }
+    leave();
+    usleep(100000);
+    for (int is_stopped = 0; !is_stopped;)
+        is_stopped = waitpid(-1, &status, WUNTRACED) == child && WIFSTOPPED(status);
+    kill(child, SIGCONT);
+    if (waitpid(child, &status, WCONTINUED) != child || !WIFCONTINUED(status))
+        exit(1);
+    write(ends[1], "x", 1);
+    while (wait(NULL) > 0)
+        continue;
+}
+
+/* Two children are there until their parent goes on, whatever numbers it is told. */
+static void fork_twice(void)
+{
+    for (int at = 0; at < 2; at++)
+        if (fork() == 0) {
+            close(ends[1]);
+            _exit((int)read(ends[0], bytes, 1));
+        }
+    close(ends[1]);
+    while (wait(NULL) > 0)
+        continue;
+}
+
+static void *fork_in_thread(void *data)
+{
+    fork_twice();
+    return data;
+}
+
+/* The same in a thread. */
+static void fork_beside(void)
+{
+    pthread_t thread;
+    if (pthread_create(&thread, NULL, fork_in_thread, NULL) != 0 || pthread_join(thread, NULL) != 0)
+        exit(1);
+}
+
+/* A child writes a byte and has gone, or it is here. */
+static void fork_once(void)
+{
+    if (fork() == 0) {
+        write(ends[1], "x", 1);
+        _exit(0);
+    }
+    wait(NULL);
+}
+
 /* Runs itself again, by two functions, in children. */
 static char *own_path;
 static void run_again(void)
@@ -367,6 +585,19 @@ static void tell_errors(void)
     printf(" %d %d\n", truncate("b", 1), errno);
 }
 
+/* The flags are not asked for after that, and no call goes by them. */
+static void set_flags(void)
+{
+    int fd = open("a", O_RDWR | O_CREAT | O_APPEND | O_NONBLOCK, 0600);
+    fcntl(ends[0], F_SETFL, O_NONBLOCK);
+    fcntl(fd, F_SETFL, 0);
+    fcntl(ends[1], F_SETFL, O_NONBLOCK | O_APPEND | O_RDWR | O_CREAT);
+    fcntl(ends[1], F_SETFL, O_NONBLOCK | O_ASYNC);
+    fcntl(ends[1], F_SETFL, O_NONBLOCK);
+    fcntl(20, F_SETFL, O_NONBLOCK);
+    fcntl(ends[0], F_SETFD, FD_CLOEXEC);
+}
+
 /* Runs itself as a program that asks for one descriptor alone. */
 static void run_with_flags(void)
 {
@@ -398,6 +629,21 @@ int main(int count, char **words)
         {"wait-killed", await_killed},  {"wait-signal", await_killed},
         {"wait-refused", await_killed}, {"fork-other", await_killed},
         {"exit-other", await},
+        {"setfl-lost", set_flags},      {"setfl-more", set_flags},
+        {"setfl-async", set_flags},     {"setfl-mode", set_flags},
+        {"set-one", set_flags},
+        {"wait-killed-heard", await_heard}, {"wait-killed-beside", await_beside},
+        {"wait-killed-asked", await_asked}, {"wait-killed-group", await_group},
+        {"more-wait", await_one},       {"more-waitpid", await_any},
+        {"more-wait4", await_used},     {"more-waitid", await_told},
+        {"self-wait", await_one},       {"self-beside", await_self_beside},
+        {"ended-stopped", await_status}, {"ended-continued", await_status},
+        {"ended-unstored", await_status},
+        {"handled", await_handled},     {"by-two", await_by_two},
+        {"stopped", await_stopped},
+        {"fork-again", fork_twice},
+        {"fork-beside", fork_beside},   {"fork-child", fork_once},
+        {"fork-parent", fork_once},
         {"end", end},                   {"dup3-same", copy_same},
         {"whence-taken", seek_astray},  {"whence-piped", seek_astray},
         {"end-lost", seek_astray},

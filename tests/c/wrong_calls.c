@@ -10,6 +10,10 @@
    dupfd-high      F_DUPFD gives a number above the lowest that is free
    dupfd-refused   F_DUPFD is EINVAL
    close-kept      close keeps the file open
+   setfl-lost      F_SETFL sets no flag
+   setfl-more      F_SETFL sets O_APPEND, too
+   setfl-async     F_SETFL sets O_ASYNC, too
+   setfl-mode      F_GETFL tells another mode after F_SETFL
    dup2-zero       dup2 gives 0
    pipe-turned     pipe gives the writing end first
    never-back      a read never comes back
@@ -28,7 +32,24 @@
    wait-killed     waitpid tells that a child that a signal has ended has exited
    wait-signal     waitpid is EINTR though no handler has run
    wait-refused    waitpid is EINVAL where there is no child
+   wait-killed-heard   the same, with a handler that ends calls
+   wait-killed-beside  the same, beside a thread
+   wait-killed-asked   the same, by WNOHANG
+   wait-killed-group   the same, of a group
+   more-wait       wait tells the number after that of the child
+   more-waitpid    the same of waitpid
+   more-wait4      the same of wait4
+   more-waitid     the same of waitid
+   self-wait       wait tells the process that calls it
+   self-beside     the same beside a thread
+   ended-stopped   waitpid tells that a child that has ended has stopped
+   ended-continued  the same, that it goes on
+   ended-unstored  waitpid stores no status
    fork-other      fork gives a number that is no child's
+   fork-again      fork gives the number of the child before
+   fork-beside     the same, in a thread
+   fork-child      fork gives a child its own number
+   fork-parent     fork gives a parent 0
    exit-other      _exit gives another status
    exec-cut        execl and execvp give one word alone
    exec-keeps      execve keeps what has FD_CLOEXEC
@@ -50,7 +71,11 @@
    end-lost        lseek takes SEEK_END for SEEK_SET
    errno-zeroed    lseek sets errno to 0
    errno-set       lseek sets errno to ENOTTY
-   errno-kept      truncate fails, and does not set errno */
+   errno-kept      truncate fails, and does not set errno
+
+   One is right:
+
+   set-one         F_SETFL and F_SETFD give 1 */
 
 #define _GNU_SOURCE
 
@@ -61,6 +86,7 @@
 #include <stdarg.h>
 #include <stdlib.h>
 #include <string.h>
+#include <sys/resource.h>
 #include <sys/stat.h>
 #include <sys/syscall.h>
 #include <sys/wait.h>
@@ -70,6 +96,13 @@ static int is_wrong(const char *how)
 {
     const char *wrong = getenv("WRONG");
     return wrong && strcmp(wrong, how) == 0;
+}
+
+/* The same of one that begins so. */
+static int begins_wrong(const char *how)
+{
+    const char *wrong = getenv("WRONG");
+    return wrong && strncmp(wrong, how, strlen(how)) == 0;
 }
 
 ssize_t read(int fd, void *to, size_t count)
@@ -100,6 +133,7 @@ ssize_t read(int fd, void *to, size_t count)
 
 int fcntl(int fd, int command, ...)
 {
+    static int is_set;
     va_list values;
     long argument;
     va_start(values, command);
@@ -111,6 +145,15 @@ int fcntl(int fd, int command, ...)
         errno = EINVAL;
         return -1;
     }
+    if (command == F_SETFL)
+        argument |= (is_wrong("setfl-more") ? O_APPEND : 0) | (is_wrong("setfl-async") ? O_ASYNC : 0);
+    is_set |= command == F_SETFL;
+    if ((command == F_SETFL || command == F_SETFD) && is_wrong("set-one"))
+        return syscall(SYS_fcntl, fd, command, argument) < 0 ? -1 : 1;
+    if (command == F_SETFL && is_wrong("setfl-lost"))
+        return 0;
+    if (command == F_GETFL && is_set && is_wrong("setfl-mode"))
+        return (int)syscall(SYS_fcntl, fd, command, argument) | O_RDWR;
     return (int)syscall(SYS_fcntl, fd, command, argument + (command == F_DUPFD && is_wrong("dupfd-high")));
 }
 
@@ -185,6 +228,29 @@ ssize_t write(int fd, const void *data, size_t count)
     return done;
 }
 
+/* What a wait tells where the kernel has told a child. */
+static pid_t told_for(long child)
+{
+    if (child > 0 && begins_wrong("self-"))
+        return getpid();
+    return (pid_t)child + (child > 0 && begins_wrong("more-"));
+}
+
+pid_t wait(int *status) { return told_for(syscall(SYS_wait4, -1, status, 0, NULL)); }
+
+pid_t wait4(pid_t which, int *status, int options, struct rusage *used)
+{
+    return told_for(syscall(SYS_wait4, which, status, options, used));
+}
+
+int waitid(idtype_t kind, id_t which, siginfo_t *told, int options)
+{
+    int done = (int)syscall(SYS_waitid, kind, which, told, options, NULL);
+    if (done == 0)
+        told->si_pid = told_for(told->si_pid);
+    return done;
+}
+
 pid_t waitpid(pid_t which, int *status, int options)
 {
     long done = which;
@@ -193,10 +259,12 @@ pid_t waitpid(pid_t which, int *status, int options)
     if (is_wrong("wait-none"))
         return -1;
     if (!is_wrong("wait-early"))
-        done = syscall(SYS_wait4, which, status, options, NULL);
+        done = syscall(SYS_wait4, which, is_wrong("ended-unstored") ? NULL : status, options, NULL);
+    if (done > 0 && (is_wrong("ended-stopped") || is_wrong("ended-continued")))
+        *status = is_wrong("ended-stopped") ? SIGSTOP << 8 | 0x7f : 0xffff;
     if (done > 0 && (is_wrong("wait-early") || is_wrong("wait-status")))
         *status = 0;
-    if (done > 0 && WIFSIGNALED(*status) && is_wrong("wait-killed"))
+    if (done > 0 && WIFSIGNALED(*status) && begins_wrong("wait-killed"))
         *status = (128 + WTERMSIG(*status)) << 8;
     if (done < 0 && errno == ECHILD && is_wrong("wait-refused"))
         errno = EINVAL;
@@ -204,16 +272,25 @@ pid_t waitpid(pid_t which, int *status, int options)
         errno = EINTR;
         return -1;
     }
-    return (pid_t)done;
+    return told_for(done);
 }
 
 pid_t fork(void)
 {
-    pid_t (*next)(void), made;
+    static pid_t before;
+    pid_t (*next)(void), made, told;
     void *found = dlsym(RTLD_NEXT, "fork");
     memcpy(&next, &found, sizeof next);
     made = next();
-    return made > 0 && is_wrong("fork-other") ? made + 1 : made;
+    told = made > 0 && is_wrong("fork-other") ? made + 1 : made;
+    if (made > 0 && before > 0 && (is_wrong("fork-again") || is_wrong("fork-beside")))
+        told = before;
+    if (made == 0 && is_wrong("fork-child"))
+        told = getpid();
+    if (made > 0 && is_wrong("fork-parent"))
+        told = 0;
+    before = made > 0 ? made : before;
+    return told;
 }
 
 void _exit(int status)

@@ -822,7 +822,7 @@ ORDERS = [
         "-@0 p0 pipe = 0 1; -@20 p0 fork = 1; -@40 p0 setfl 0 r,nonblock = ok; -@20 p1 write 1 x61 = 1; "
         "-@78 p0 read 0 9 = error EAGAIN; -@77 p0 read 0 9 = x61",
         A_PIPE + "4 p0 setfl 0 r,nonblock = ok; " + READS_HERE,
-        f"{OPEN_ORDER}a call was made within another one",
+        f"{OPEN_ORDER}a call was made within another one, as by a handler of a signal: p0 read 0 9 = x61",
         f"not judged: 2 answers differ with a reason: {OF_TIME}; {NOT_DECIDED}",
         3,
     ),
@@ -846,10 +846,29 @@ ORDERS = [
         "! 1 p0 stream fopen\tl",
     ),
     Orders(
+        "a call that has no line on the system may be why there is no order",
+        TWO + EXCL.format("error EEXIST"),
+        TWO_HERE + "6 p1 close 0 = ok; 7 p1 open l w,creat,excl = 0; 8 p2 open l w,creat,excl = error EEXIST",
+        f"{OPEN_ORDER}none was found, but what has no line, as a call with a path or a stream, truncate or fsync, may be "
+        "why: p1 close 0, before p1 open l w,creat,excl",
+        f"not judged: 1 answer differs without a reason; {NOT_DECIDED}",
+        3,
+        asides=(6,),
+    ),
+    Orders(
+        "a call that has no line on the system, after other calls than there",
+        TWO + "p1 close 9 = error EBADF; " + EXCL.format("error EEXIST"),
+        TWO_HERE + "6 p1 close 8 = error EBADF; 7 p1 close 0 = ok; 8 p2 open l w,creat,excl = error EEXIST",
+        f"{OPEN_ORDER}p1 makes other calls with fdref after 0 calls, and one of them has no line on the system (p1 close 0)",
+        f"not judged: 1 answer differs without a reason, perhaps by {causes.NUMBERS}; {NOT_DECIDED}",
+        3,
+        asides=(7,),
+    ),
+    Orders(
         "a read that has a reason where no order was decided on",
         TWO + "p1 write 1 x6161 = 2; p2 write 1 x6262 = 2; p0 read 0 9 = x61626261",
         TWO_HERE + WRITES_HERE,
-        f"{OPEN_ORDER}none was found, but a process that was killed may be why",
+        f"{OPEN_ORDER}none was found, but a process that was killed may be why: a child of p0, by signal 9 (SIGKILL)",
         f"not judged: 1 answer differs with a reason: {OF_TIME}; {NOT_DECIDED}",
         3,
         "- 8 p0 signal 9",
@@ -867,7 +886,7 @@ ORDERS = [
         "an answer after the first fork, which a child that was killed may have changed",
         "p0 open a rw,creat = 0; p0 fork = 1; p0 lseek 0 0 end = 1",
         "0 p0 join = 0; 1 p0 open a rw,creat = 0; 2 p0 fork = 1; 3 p1 attach = ok; 4 p0 lseek 0 0 end = 0",
-        f"{OPEN_ORDER}none was found, but a process that was killed may be why",
+        f"{OPEN_ORDER}none was found, but a process that was killed may be why: a child of p0, by signal 9 (SIGKILL)",
         f"not judged: 1 answer differs without a reason; {NOT_DECIDED}",
         3,
         cuts="- 70 p0 signal 9",
@@ -876,7 +895,7 @@ ORDERS = [
         "an answer before the first fork, by what went past fdref, where a child was killed later",
         "p0 open a rw,creat = 0; p0 lseek 0 0 end = 1; p0 fork = 1",
         "0 p0 join = 0; 1 p0 open a rw,creat = 0; 2 p0 lseek 0 0 end = 0; 3 p0 fork = 1; 4 p1 attach = ok",
-        f"{OPEN_ORDER}none was found, but a process that was killed may be why",
+        f"{OPEN_ORDER}none was found, but a process that was killed may be why: a child of p0, by signal 9 (SIGKILL)",
         "not judged: 1 answer differs without a reason, perhaps by posix_fallocate on descriptor 0, which went past "
         f"fdref; {NOT_DECIDED}",
         3,
@@ -980,7 +999,7 @@ ORDERS = [
         "two threads, of which one may have waited",
         "p0 mkfifo f = ok; p0 open f r = 0; -1 p0 open f w = 1; p0 close 7 = ok",
         "0 p0 join = 0; 1 p0 mkfifo f = ok; 2 p0 open f r,nonblock = 0; 3 p0 open f w = 1; 4 p0 close 7 = error EBADF",
-        f"{OPEN_ORDER}a thread may have waited in a call",
+        f"{OPEN_ORDER}a thread may have waited in a call, beside which others make theirs: p0 open f r",
         f"not judged: 1 answer differs without a reason, perhaps by {causes.NUMBERS}; {NOT_DECIDED}",
         3,
     ),
@@ -1075,6 +1094,8 @@ def order_cases(program: str) -> Iterator[Case]:
     yield "the first answer that is not judged", tells_hidden
     yield "a child that a signal ended", tells_signals
     yield "a search that is given up", gives_up
+    for shown in SHOWN:
+        yield f"threads whose calls are shown: {shown.name}", partial(shows_one_thread, program, shown)
     yield "stdio on what is no output", blames_outputs
     yield "a child that was kept", tells_kept
     yield "who comes first where no answer differs", names_first
@@ -1128,6 +1149,66 @@ GIVEN_UP = (
     "given up after 4 states, or 20 seconds: fewer processes, threads or calls at once may decide it, or --search N "
     "seconds"
 )
+
+
+class Shown(NamedTuple):
+    """Logs of a process with threads, and what is shown of where they part; of fdref also which lines are in its log,
+    with their threads."""
+
+    name: str
+    system: str
+    trace: str
+    log: str
+    shown: list[str]
+
+
+TWO_WRITES = "0 p0 join = 0; 1 p0 open a rw,creat = 0; 2 p0 write 0 x61 = 1; 3 p0 write 0 x62 = 1; 4 p0 pread 0 0 9 = x6162"
+SHOWN = [
+    Shown(
+        "the answer of one thread, after lines of others",
+        "- p0 open a rw,creat = 0; -1 p0 write 0 x62 = 1; - p0 write 0 x61 = 1; - p0 pread 0 0 9 = x6361",
+        TWO_WRITES,
+        "1 p0 open a rw,creat = 0; 2 p0 write 0 x61 = 1; 3-1 p0 write 0 x62 = 1; 4 p0 pread 0 0 9 = x6162",
+        ["system: p0 pread 0 0 9 = x6361 (thread 1)", "fdref:  4 p0 pread 0 0 9 = x6162 (thread 1)"],
+    ),
+    Shown(
+        "a thread that has another number there",
+        "- p0 open a rw,creat = 0; -1 p0 write 0 x62 = 1; -2 p0 write 0 x61 = 0; - p0 pread 0 0 9 = x62",
+        TWO_WRITES,
+        "1 p0 open a rw,creat = 0; 2-1 p0 write 0 x61 = 1; 3-2 p0 write 0 x62 = 1; 4 p0 pread 0 0 9 = x6162",
+        ["system: p0 write 0 x61 = 0 (thread 3)", "fdref:  2 p0 write 0 x61 = 1 (thread 3)"],
+    ),
+    Shown(
+        "lines of different threads, where each has the same answers",
+        "- p0 open a rw,creat = 0; -1 p0 write 0 x62 = 1; - p0 write 0 x61 = 1; - p0 pread 0 0 9 = x6162",
+        TWO_WRITES,
+        "1 p0 open a rw,creat = 0; 2 p0 write 0 x61 = 1; 3-1 p0 write 0 x62 = 1; 4 p0 pread 0 0 9 = x6162",
+        ["system: p0 write 0 x62 = 1 (thread 2)", "fdref:  2 p0 write 0 x61 = 1 (thread 1)"],
+    ),
+    Shown(
+        "a thread that waits, beside another one that makes a call",
+        "- p0 pipe = 0 1; - p0 write 1 x7a = 1; -1 p0 read 0 1 = x7a",
+        "0 p0 join = 0; 1 p0 pipe = 0 1; 2 p0 read 0 1 = parked 0",
+        "1 p0 pipe = 0 1",
+        ["system: p0 read 0 1 = x7a (thread 2)", "fdref:  2 p0 read 0 1 = parked 0 (thread 2)"],
+    ),
+    Shown(
+        "one thread",
+        "- p0 open a rw,creat = 0; - p0 write 0 x61 = 0",
+        "0 p0 join = 0; 1 p0 open a rw,creat = 0; 2 p0 write 0 x61 = 1",
+        "1 p0 open a rw,creat = 0; 2 p0 write 0 x61 = 1",
+        ["system: p0 write 0 x61 = 0", "fdref:  2 p0 write 0 x61 = 1"],
+    ),
+]
+
+
+def shows_one_thread(program: str, shown: Shown) -> None:
+    """Both lines of what is shown are of one thread, or each is told with its thread."""
+    system, fdref = as_bytes(lines_of(shown.system)), as_bytes(lines_of(shown.log))
+    both = judge.Both(WELL, WELL, system, fdref, trace_of(lines_of(shown.trace)))
+    said = judge.told(judge.Verdict(both, "legal 5 rest 0", program=[program]), 60, 0).splitlines()
+    same(shown.shown, [line for line in said if line.startswith(("system: ", "fdref: "))])
+    require(not any(line.startswith("the calls differ") for line in said if "no order of these" in "".join(said)), "")
 
 
 def gives_up() -> None:
@@ -1453,7 +1534,7 @@ def tells_looks() -> None:
     told = "not compared: 1 look at names, as by stat or access, which have no line"
     require(told in judge.told(verdict, 60, 0).splitlines(), judge.told(verdict, 60, 0))
     agreement = "verdict: agreement in what was compared, which is not all: no answer differs"
-    same((agreement, 0), ending(verdict))
+    same((f"{agreement}; not compared: looks at names", 0), ending(verdict))
 
 
 FLAGS = "1 answer about FD_CLOEXEC differs from what was set: system: p0 fcntl F_GETFD 3 = 0"

@@ -1,5 +1,6 @@
 """Programs of tests/c that are judged by tools/judge.py: what it says of each, and that nothing is left."""
 
+import fcntl
 import os
 import platform
 import re
@@ -7,6 +8,7 @@ import select
 import shlex
 import shutil
 import signal
+import struct
 import subprocess
 import sys
 import tempfile
@@ -139,7 +141,8 @@ MODES = "modes, owners, times and st_ino, which are fdref's own"
 DIFFERS_BY = f"{NOT_JUDGED}1 answer differs without a reason, perhaps by "
 OTHER_WAY = "the calls differ, not the answers: perhaps by "
 HOLDS = "a thread that waits in read and holds its process"
-BAD_ADDRESS = "a crash (SIGSEGV) is no agreement: with the shim a bad address is no EFAULT"
+NOT_ALL = "verdict: agreement in what was compared, which is not all: no answer differs"
+BAD_ADDRESS = "a crash (SIGSEGV) is no agreement: with fdref's library a bad address is no EFAULT"
 
 # What is said of programs that go another way, or get another answer: lines, and what that may be by.
 OTHERWISE: list[tuple[str, tuple[str, ...], str]] = [
@@ -175,7 +178,7 @@ PROGRAMS = [
         0,
         (
             WELL,
-            "not compared: the format of dprintf, which the library answers by itself in both runs",
+            "not compared: the format of dprintf, which fdref's library answers by itself in both runs",
             "verdict: agreement in what was compared, which is not all: no answer differs",
         ),
     ),
@@ -358,8 +361,8 @@ PROGRAMS = [
         (
             "system: ended with status 0",
             "fdref:  stood still, and was killed: p0 read 4 1, in which a thread waits and holds its process",
-            "system: p0 write 5 x7a = 1",
-            "fdref:  7 p0 read 4 1 = parked 0",
+            "system: p0 read 4 1 = x7a (thread 2)",
+            "fdref:  7 p0 read 4 1 = parked 0 (thread 2)",
             f"reason: {AN_ORDER}",
             f"may follow from {HOLDS} (after line 6)",
             "a thread waits in read, and no other one can make a call meanwhile",
@@ -430,14 +433,18 @@ PROGRAMS = [
     Judged("signals", ("kills",), 0, (WELL, "4 calls of 2 processes: no answer differs", "audit: legal")),
     Judged(
         "signals",
-        ("loses",),
+        ("loses-beside",),
         0,
         (
             WELL,
-            "not compared: how a child ended, of which the system told by waitpid",
-            "verdict: agreement in what was compared, which is not all: no answer differs",
+            "not compared: how a child ended, of which the system told by waitpid (the process has threads)",
+            f"{NOT_ALL}; not compared: how a child ended",
         ),
     ),
+    *[
+        Judged("signals", (word,), 0, (WELL, "3 calls of 2 processes", "audit: legal", "verdict: agreement: no answer"))
+        for word in ("cancels-wait", "ends-wait")
+    ],
     Judged("signals", ("address",), 3, ("both ended by signal 11", BAD_ADDRESS, "1 call of 1 process")),
     Judged("signals", ("child",), 3, (WELL, BAD_ADDRESS.replace("a crash", "a child's crash"), "3 calls of 2")),
     Judged("signals", ("by-number",), 3, (WELL, BAD_ADDRESS.replace("a crash", "a child's crash"), "3 calls of 2")),
@@ -462,7 +469,7 @@ PROGRAMS = [
         3,
         (
             f"{NOT_JUDGED}a call is made while another one of the same process waits: by a handler of a signal, or "
-            "after a jump out of one; the library cannot do that",
+            "after a jump out of one; fdref's library cannot do that",
         ),
     ),
     Judged("signals", ("aborts",), 3, ("both ended by signal 6", "a crash (SIGABRT) is no agreement", "1 call")),
@@ -566,6 +573,12 @@ def cases(bench: Bench) -> Iterator[Case]:
         for wrong, word, status, last in GOES_ON_AFTER:
             name = f"a signal that ends a call, which {word} makes: {wrong}"
             yield name, partial(goes_on_after_signals, bench, wrong, word, status, last)
+    yield "F_SETFL and F_SETFD that give another number than 0", partial(takes_any_number, bench)
+    for word, why in ENDS_KEPT.items():
+        yield f"a child's end that the kernel keeps: {word}", partial(compares_ends, bench, word, why)
+    yield "a child's end beside a handler that ends calls", partial(loses_beside_handlers, bench)
+    for word in RIGHT_WAITS:
+        yield f"waits that are right: {word}", partial(excuses_waits, bench, word)
     yield "a call that sets errno, and does not fail", partial(names_errno, bench)
     yield "the library itself in LD_PRELOAD", partial(leaves_out_itself, bench)
     yield "a program that takes long", partial(tells_long_runs, bench)
@@ -573,6 +586,7 @@ def cases(bench: Bench) -> Iterator[Case]:
     yield "a compiler that takes too long", partial(ends_compilers, bench)
     yield "threads in a log", partial(names_threads, bench)
     yield "slow threads in a log", partial(names_slow_threads, bench)
+    yield "threads in a log of fdref", partial(names_threads_of_fdref, bench)
     yield "a process that ends beside a thread", partial(ends_beside_threads, bench)
     yield "what is kept, and standard input", partial(is_kept, bench)
     yield "standard input that is not read", partial(tells_unread, bench)
@@ -636,6 +650,19 @@ def names_slow_threads(bench: Bench) -> None:
         lines, noted = noted_natively(bench, word, library)
         same("", noted)
         same([calls] * 3, [[it[2] for it in lines if it[0] == place] for place in ("-1", "-2", "-3")])
+
+
+def names_threads_of_fdref(bench: Bench) -> None:
+    """The log of a run with fdref tells threads apart, too, after the place."""
+    into = bench.path("kept-threads")
+    os.mkdir(into)
+    same(0, bench.judged("--shim", bench.shim(), "--keep", into, bench.compiled("judge_races"), "threads").status)
+    lines = [line.split(" ") for line in Path(into, "fdref.log").read_text(encoding="ascii").splitlines()]
+    threads = [place.partition("-")[2] for place, *_ in lines]
+    same({"", "1", "2", "3"}, set(threads))
+    for thread in ("1", "2", "3"):
+        words = [word for (_, _, word, *_), it in zip(lines, threads, strict=True) if it == thread]
+        same(["open", *["write"] * 8, "close"], words)
 
 
 def ends_beside_threads(bench: Bench) -> None:
@@ -742,6 +769,10 @@ WRONGED = {
     "dupfd-high": "system: p0 dup2 3 8 = 9",
     "dupfd-refused": "system: p0 dup2 3 8 = error EINVAL",
     "close-kept": "system: p0 read 3 1 = x78",
+    **{
+        word: f"{OF_SYSTEM}p0 fcntl: F_SETFL has set other flags than it was asked for, as F_GETFL tells"
+        for word in ("setfl-lost", "setfl-more", "setfl-async", "setfl-mode")
+    },
     "dup2-zero": "system: p0 dup2 4 9 = 0",
     "pipe-turned": "system: p0 pipe = 4 3",
     "never-back": "fdref:  8 p0 read 3 1 = x78",
@@ -760,7 +791,22 @@ WRONGED = {
     "wait-killed": f"{OF_SYSTEM}p0 waitpid: has told otherwise how a child has ended",
     "wait-signal": f"{OF_SYSTEM}p0 waitpid: has failed with EINTR, and no handler has run",
     "wait-refused": f"{OF_SYSTEM}p0 waitpid: has failed with error 22, and ECHILD is due",
+    "wait-killed-beside": f"{OF_SYSTEM}p0 waitpid: has told otherwise how a child has ended",
+    "wait-killed-asked": f"{OF_SYSTEM}p0 waitpid: has told otherwise how a child has ended",
+    **{
+        f"more-{name}": f"{OF_SYSTEM}p0 {name}: has told a process that is no child"
+        for name in ("wait", "waitpid", "wait4", "waitid")
+    },
+    "self-wait": f"{OF_SYSTEM}p0 wait: has told a process that is no child",
+    "self-beside": f"{OF_SYSTEM}p0 wait: has told a process that is no child",
+    "ended-stopped": f"{OF_SYSTEM}p0 waitpid: has told no end of a child that has ended",
+    "ended-continued": f"{OF_SYSTEM}p0 waitpid: has told no end of a child that has ended",
+    "ended-unstored": f"{OF_SYSTEM}p0 waitpid: has told no end of a child that has ended",
     "fork-other": f"{OF_SYSTEM}p0 fork: has told the number of no child",
+    "fork-again": f"{OF_SYSTEM}p0 fork: has told the number of another process than its child",
+    "fork-beside": f"{OF_SYSTEM}p0 fork: has told the number of another process than its child",
+    "fork-child": f"{OF_SYSTEM}p0 fork: has not told the child that it is one",
+    "fork-parent": f"{OF_SYSTEM}p0 fork: has told a parent that it is the child",
     "exit-other": f"{OF_SYSTEM}p1 _exit: was called with 7, and the child has ended with 8, as waitpid tells",
     "exec-cut": f"{OF_SYSTEM}p1 execl: has given a program other words",
     "exec-keeps": "1 answer about FD_CLOEXEC differs from what was set: system: p0 execl 5 = kept",
@@ -817,7 +863,73 @@ def names_errno(bench: Bench) -> None:
     require(ran.status == 3 and last.startswith(f"{ENDS_OTHERWISE}, perhaps by {cause}"), ran.said())
 
 
+def takes_any_number(bench: Bench) -> None:
+    """What F_SETFL and F_SETFD give is any number but -1."""
+    ran = judged_wronged(bench, "set-one")
+    past = "what went past fdref (first fcntl with other flags on descriptor 4)"
+    same((0, f"{NOT_ALL}; not compared: {past}"), (ran.status, ran.stdout.decode("ascii").splitlines()[-1]))
+
+
+# Asks how a process has ended that is gone, by a descriptor of it: what is asked for, and the status at last.
+ASKS_OF_PROCESS, STATUS_IS_ASKED, TOLD_END = 0xC040FF0B, 8, struct.Struct("@QQ11Ii")
+
+
+def are_ends_kept() -> bool:
+    """Whether the kernel keeps that, as Linux does from 6.15 on."""
+    child = os.fork()
+    if child == 0:
+        os._exit(0)
+    try:
+        watch = os.pidfd_open(child)
+    except OSError:
+        return False
+    finally:
+        os.waitpid(child, 0)
+    try:
+        told = fcntl.ioctl(watch, ASKS_OF_PROCESS, TOLD_END.pack(STATUS_IS_ASKED, *[0] * 13))
+        return bool(TOLD_END.unpack(told)[0] & STATUS_IS_ASKED)
+    except OSError:
+        return False
+    finally:
+        os.close(watch)
+
+
+# Waits of which nothing but the kernel tells how a child ended, and why.
+ENDS_KEPT = {"wait-killed-heard": "a handler is set that ends calls", "wait-killed-group": "a group is waited for"}
+
+
+def compares_ends(bench: Bench, word: str, why: str) -> None:
+    """How a child ended that a signal has ended is compared with what the kernel keeps, if it does; else it is told that
+    it was not compared, and why."""
+    ran = judged_wronged(bench, word)
+    lines = ran.stdout.decode("ascii").splitlines()
+    if are_ends_kept():
+        wrong = f"{OF_SYSTEM}p0 waitpid: has told otherwise how a child has ended"
+        same((1, wrong), (ran.status, lines[-1]))
+    else:
+        told = f"not compared: how a child ended, of which the system told by waitpid ({why})"
+        same((0, told, f"{NOT_ALL}; not compared: how a child ended"), (ran.status, lines[-3], lines[-1]))
+
+
+def loses_beside_handlers(bench: Bench) -> None:
+    """The same of a system that is right."""
+    ran = bench.judged("--shim", bench.shim(), bench.compiled("judge_signals"), "loses")
+    last = AGREES if are_ends_kept() else f"{NOT_ALL}; not compared: how a child ended"
+    same((0, last), (ran.status, ran.stdout.decode("ascii").splitlines()[-1]))
+
+
 AGREES = "verdict: agreement: no answer differs"
+# Waits of a program of judge_wronged beside a handler that waits, in two threads, and for a child that stops.
+RIGHT_WAITS = ("handled", "by-two", "stopped")
+
+
+def excuses_waits(bench: Bench, word: str) -> None:
+    """Right waits are not blamed, whoever takes a child."""
+    ran = bench.judged("--shim", bench.shim(), bench.compiled("judge_wronged"), word)
+    last = ran.stdout.decode("ascii").splitlines()[-1]
+    require(ran.status == 0 and last.startswith("verdict: agreement"), ran.said())
+
+
 # What is said of a program of judge_signals with a part of a C library that goes on after a signal, or that is right.
 GOES_ON_AFTER = [
     ("read-retried", "read", 1, f"{OF_SYSTEM}p0 read: has gone on after signal 10 has ended it"),
@@ -851,7 +963,7 @@ def leaves_out_itself(bench: Bench) -> None:
     """Where LD_PRELOAD names the library that judge.py loads by itself, that is told, and the program judged."""
     variables = f"LD_PRELOAD={bench.shim()}", f"FDREF_LOG={bench.path('own-log')}"
     ran = bench.judged("--shim", bench.shim(), bench.compiled("judge_agrees"), variables=variables)
-    told = f"judge.py: {bench.shim()} is the library that judge.py loads by itself: it is left out of LD_PRELOAD\n"
+    told = f"judge.py: {bench.shim()} is fdref's library, which judge.py loads by itself: it is left out of LD_PRELOAD\n"
     same((0, told), (ran.status, ran.stderr.decode("utf-8")))
 
 
@@ -891,7 +1003,7 @@ def ends_compilers(bench: Bench) -> None:
     code = BUILT_SOON.format(str(TOOLS), ["--program", bench.program, bench.compiled("judge_agrees")])
     env = ["env", f"TMPDIR={bench.scratch}", f"CC={compiler}"]
     ran = run([*env, sys.executable, "-c", code], seconds=SECONDS)
-    told = f"judge.py: waited for {compiler} to compile the library: still running after 2 seconds\n"
+    told = f"judge.py: waited for {compiler} to compile fdref's library: still running after 2 seconds\n"
     same((3, b"", told.encode()), (ran.status, ran.stdout, without_waits(ran.stderr)))
     bench.is_clean()
 
@@ -983,9 +1095,9 @@ def cannot_run(bench: Bench, words: tuple[str, ...], why: str, variables: tuple[
 
 
 NO_CALLS = (
-    "made none of the calls that fdref knows, or does not load the shim, or not in time, as a static program, one that "
-    "is built with -fsanitize=address or thread, or one that is given an LD_PRELOAD of its own, as by env: --preload "
-    "adds a library to the shim"
+    "made none of the calls that fdref knows, or does not load fdref's library, or not in time, as a static program, "
+    "one that is built with -fsanitize=address or thread, or one that is given an LD_PRELOAD of its own, as by env: "
+    "--preload adds a library to it"
 )
 EXPR = shutil.which("expr") or "expr"
 NO_SUM = f"{NO_CALLS}; it ended with status 2, and wrote '{EXPR}: non-integer argument' on standard error"
@@ -998,7 +1110,7 @@ def not_run(bench: Bench) -> Iterator[tuple[str, str, tuple[str, ...], tuple[str
     yield "a folder", "no program /tmp", (*shim, "/tmp"), ()
     source = str(TOP / "tests" / "c" / "judge_agrees.c")
     yield "a source", f"{source} is a file that may not be executed", (*shim, source), ()
-    compiler = "no C compiler /no/cc: $CC names another one, and --shim a built library"
+    compiler = "no C compiler /no/cc: $CC names another one, and --shim fdref's library as it is built"
     yield "no compiler", compiler, (agrees,), ("CC=/no/cc",)
     yield "a server that ends", "no server: status 1: ", ("--program", "false", *shim, agrees), ()
     nowhere = ("--program", "/no/fdref", *shim, agrees)

@@ -484,7 +484,7 @@ def is_ended_before(library: Library) -> None:
         command = [library.program("preload_numbers"), "mixed"]
         given = started(library, command, [f"FDREF_SOCKET={listener.path}"])
         ending.join(SECONDS)
-        told = f"fdref: {listener.path}: the server ended, or had no memory or no thread for this process\n".encode()
+        told = f"fdref: {listener.path}: the server ended, or had no memory, descriptor or thread for this process\n".encode()
         same(Given(Ran(NO_ANSWER, b"", told), []), given)
 
 

@@ -5,6 +5,7 @@ also have a line of a wait that told which child had ended, which is no call of 
 """
 
 import re
+from collections.abc import Sequence
 from typing import NamedTuple
 
 from support.counting import Failure, require
@@ -39,6 +40,17 @@ def is_wait(line: Line) -> bool:
 def call_of(line: Line) -> str:
     """A line's act without the number of the process."""
     return line.act.partition(" ")[2]
+
+
+def without_threads(lines: Sequence[Line]) -> tuple[list[Line], dict[str, str]]:
+    """The lines of a log of fdref with their places alone, and by these which thread of its process each is of, if that
+    is not the first one to make a call."""
+    found, threads = [], {}
+    for line in lines:
+        place, _, thread = line.place.partition("-")
+        threads.update({place: thread} if place and thread else {})
+        found.append(line._replace(place=place) if place else line)
+    return found, threads
 
 
 def ways_of(lines: list[Line]) -> dict[int, Way]:
