@@ -61,6 +61,8 @@ class Emulator:
         return self.offset - count
 
 
+RECORDS_MOST = 1_000_000
+
 CALLS: list[tuple[str, tuple[Any, ...]]] = [
     ("open", ("a", os.O_RDWR | os.O_CREAT)),
     ("write", (0, b"hello")),
@@ -72,12 +74,20 @@ CALLS: list[tuple[str, tuple[Any, ...]]] = [
 ]
 
 
+def number_of_records(word: str) -> int:
+    """How many records a run has at most, as a word."""
+    number = int(word)
+    if not 0 <= number <= RECORDS_MOST:
+        raise argparse.ArgumentTypeError(f"{number} is no number of records: 0, or from 1 to {RECORDS_MOST}")
+    return number
+
+
 def main(words: Sequence[str]) -> int:
     """Runs the calls and writes the trace: the exit status."""
     parser = argparse.ArgumentParser(description="Writes what an emulator's calls came to as a trace.")
     parser.add_argument("--mistake", action="store_true", help="let pread move the offset")
     records = "how many records the run was to have at most; 0, nobody knows, where no number is given"
-    parser.add_argument("--records", type=int, default=0, metavar="N", help=records)
+    parser.add_argument("--records", type=number_of_records, default=0, metavar="N", help=records)
     parser.add_argument("file", metavar="FILE")
     args = parser.parse_args(words)
     emulator = Emulator(args.mistake)
@@ -88,7 +98,10 @@ def main(words: Sequence[str]) -> int:
         except OSError as error:
             outcome = error
         done.append(fdref.Record(0, name, values, outcome))
-    fdref.write_trace(args.file, [*done, fdref.Record(0, "exit")], most_records=args.records)
+    try:
+        fdref.write_trace(args.file, [*done, fdref.Record(0, "exit")], most_records=args.records)
+    except OSError as fault:
+        parser.exit(1, f"emulator_trace.py: {args.file}: {fault.strerror}\n")
     return 0
 
 

@@ -27,7 +27,7 @@ sys.path.insert(0, str(Path(__file__).resolve().parents[1] / "clients" / "python
 import fdref
 
 SECONDS = 10
-# The exit status where no server can be asked.
+# The exit status where no server can be asked, or it refuses a call.
 NO_SERVER = 3
 TOLD: list[tuple[int, str]] = []
 
@@ -102,7 +102,7 @@ def ask_own(program: Sequence[str]) -> int:
 
 
 def main(words: Sequence[str]) -> int:
-    """Asks: the exit status, which is 3 where there is no server."""
+    """Asks: the exit status, which is 3 where there is no server, or it refuses a call."""
     parser = argparse.ArgumentParser(description="Who gets which bytes of a pipe?")
     which = parser.add_mutually_exclusive_group(required=True)
     which.add_argument("--socket", metavar="PATH", help="where a server listens")
@@ -114,10 +114,12 @@ def main(words: Sequence[str]) -> int:
         with fdref.join(args.socket) as parent:
             ask(args.socket, parent)
         return 0
+    except fdref.Refused as refused:
+        why = str(refused)
     except OSError as fault:
         why = f"{fault.filename}: {fault.strerror}" if fault.filename else str(fault)
-        print(f"shared_pipe.py: {why}", file=sys.stderr)
-        return NO_SERVER
+    print(f"shared_pipe.py: {why}", file=sys.stderr)
+    return NO_SERVER
 
 
 if __name__ == "__main__":

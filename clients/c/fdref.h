@@ -6,6 +6,10 @@
    of fcntl the commands F_GETFL and F_SETFL have names of their own.
 
        struct fdref *p = fdref_join("/tmp/fdref.socket");
+       if (!p) {
+           fprintf(stderr, "/tmp/fdref.socket: %s\n", fdref_no_process(errno));
+           exit(1);
+       }
        int fd = fdref_open(p, "a", O_RDWR | O_CREAT);
        if (fdref_write(p, fd, "hello", 5) < 0)
            perror("write");
@@ -24,8 +28,10 @@
                      up. ETIMEDOUT: no answer came within the limit of fdref_answer_within, and it was given up. The
                      process has ended then, and each later call gives ENOTCONN.
      another         The run could not record the call. FDREF_NO_MEMORY is ENOMEM, FDREF_RUN_FULL EDQUOT, FDREF_WAITING
-                     EBUSY, FDREF_NOT_HERE ECHILD, and FDREF_FOREIGN ESTALE. The process may go on, but not after
-                     FDREF_RUN_FULL of a call that waits: the server ends the process then.
+                     EBUSY, FDREF_NOT_HERE ECHILD, and FDREF_FOREIGN ESTALE. fdref_error_name has their names, where
+                     perror would speak of a quota. FDREF_RUN_FULL is that no record is free: of the --records of the
+                     server one is kept for the exit of each process, and one for the end of the run. The process may
+                     go on, but not after FDREF_RUN_FULL of a call that waits: the server ends the process then.
 
    A recorded error is never one of the numbers in the last two rows: EPIPE is that of a pipe.
 
@@ -62,7 +68,7 @@ enum fdref_refusal {
     FDREF_NO_MEMORY = 17, FDREF_RUN_FULL, FDREF_WAITING, FDREF_NOT_HERE, FDREF_FOREIGN
 };
 
-/* What fstat tells, and the kinds of file. */
+/* What fstat tells: the kind of file, its size in bytes, and how many names it has; and the kinds. */
 enum fdref_file_kind { FDREF_KIND_REGULAR, FDREF_KIND_FIFO, FDREF_KIND_PIPE };
 struct fdref_stat {
     int kind;
@@ -77,10 +83,12 @@ struct fdref;
 /* How many seconds the first answer is waited for where no limit is given. A server that has a place answers at once. */
 #define FDREF_FIRST_ANSWER 10u
 
-/* Connects to the server at a path as a new process, without open descriptors. NULL: errno is EAGAIN where no process
-   can come any more, or that of a refusal, or what kept it from connecting; or it is ETIMEDOUT where the connection was
-   made and no answer came within FDREF_FIRST_ANSWER seconds: the server has as many connections as its --sessions
-   says, and answers no other, or has no descriptors for one more, or it is no fdref. */
+/* Connects to the server at a path as a new process, without open descriptors. NULL: errno is EAGAIN where the run has
+   64 processes already, or that of a refusal, or what kept it from connecting, as ECONNREFUSED of a socket that a
+   server has left and at which nobody listens; or it is ETIMEDOUT where the connection was made and no answer came
+   within FDREF_FIRST_ANSWER seconds: the server has as many connections as its --sessions says, and answers no other,
+   or has no descriptors for one more, or it is no fdref. fdref_no_process has that in words. A connection that was made
+   is one of the sessions of the server, also where the run takes no process. */
 struct fdref *fdref_join(const char *path);
 
 /* The same; a server that is only starting is waited for, at most so many seconds, and its answer no longer than that
@@ -92,8 +100,9 @@ struct fdref *fdref_attach(const char *path, pid_t child);
 struct fdref *fdref_attach_within(const char *path, pid_t child, unsigned seconds);
 
 /* What to tell where one of these gave NULL, by its errno: "no answer: all sessions are taken, the server can take no
-   further connection, or no fdref listens there" of ETIMEDOUT, "the server ended, or had no memory or no thread for
-   this process" of ECONNRESET, and of another what strerror has. */
+   further connection, or no fdref listens there" of ETIMEDOUT, "the server ended, or had no memory, descriptor or
+   thread for this process" of ECONNRESET, of EAGAIN, EDQUOT and ESRCH that the run has as many processes as it may, no record for
+   one more, or no such child, and of another what strerror has. */
 const char *fdref_no_process(int number);
 
 /* Limits how many seconds may pass in which nothing comes of an answer that is waited for, or in which the server takes
@@ -101,9 +110,10 @@ const char *fdref_no_process(int number);
    signal does not. */
 void fdref_answer_within(struct fdref *p, unsigned seconds);
 
-/* Ends a process, as _exit does, and frees it. Its exit is recorded when this gives 0. It gives ETIMEDOUT where a limit
-   passed before the server closed the connection, which then records the exit later, and ECONNRESET where the
-   connection was lost. It does not change errno. */
+/* Ends a process, as _exit does, and frees it. Its exit is recorded when this gives 0, and it waits for that as long as
+   fdref_answer_within allows. It gives ETIMEDOUT where that limit passed before the server closed the connection, which
+   then records the exit later, and ECONNRESET where the connection was lost. NULL is no process, and gives 0. It does
+   not change errno. */
 int fdref_exit(struct fdref *p);
 
 /* Frees a process in a child made by fork; the connection stays its parent's. A child that does not do this keeps the
@@ -122,7 +132,12 @@ int fdref_refusal(const struct fdref *p);
 /* The name that fdref has for an errno, as "EBADF" or, of a refusal, "RunFull"; else NULL. */
 const char *fdref_error_name(int number);
 
-/* ---- calls */
+/* ---- calls
+
+   docs/PROFILE.md lists the errors of each. Only fdref_open, fdref_read and fdref_write ever wait, at pipes and FIFOs
+   and without O_NONBLOCK, for as long as fdref_answer_within allows. Sizes and offsets are in bytes; to read or write
+   more than FDREF_TRANSFER_MOST at once is EINVAL. A process has 32 descriptors, 0 to 31. There are no folders: a name
+   has 1 to 64 letters, digits, '.', '_' and '-'. */
 
 int fdref_open(struct fdref *p, const char *name, int flags);
 int fdref_close(struct fdref *p, int fd);
@@ -149,7 +164,8 @@ int fdref_getfl(struct fdref *p, int fd);
    O_TRUNC are ignored. */
 int fdref_setfl(struct fdref *p, int fd, int flags);
 
-/* Makes a child with the same open descriptors, and gives its number. It makes calls once it is attached. */
+/* Makes a child with the same open descriptors, and gives its number. It makes calls once it is attached. Until then it
+   has them open, too: while it has the writing end of a pipe, no read comes to the end. */
 pid_t fdref_fork(struct fdref *p);
 
 /* ---- waiting */
@@ -157,8 +173,9 @@ pid_t fdref_fork(struct fdref *p);
 /* Whether a call returns, with EINPROGRESS, when an answer tells that it waits. */
 void fdref_return_when_parked(struct fdref *p, int is_to_return);
 
-/* Waits for the next answer of the call that waits, and gives what the call would give. What a read gets goes where the
-   call had its buffer. EINVAL: no call waits. */
+/* Waits for the next answer of the call that waits, as long as fdref_answer_within allows, and gives what the call
+   would give. What a read gets goes where the call had its buffer, which has to be there still. EINVAL: no call
+   waits. */
 ssize_t fdref_finish(struct fdref *p);
 
 /* How many answers told that the last call waits; 0 where it did not have to. */
@@ -210,14 +227,14 @@ struct fdref_trace *fdref_trace_open(const char *path);
    bytes, and a file has FDREF_FILE_SIZE or FDREF_OLD_FILE_SIZE at most. Another number is EINVAL; no file is made. */
 struct fdref_trace *fdref_trace_open_of(const char *path, uint32_t records, uint32_t pipe_capacity, uint64_t file_size);
 
-/* Writes all records that are gathered to the file, so that they are there though the program is killed. */
+/* Writes all records that are gathered to the file, so that they are there though the program is killed. 0, or -1. */
 int fdref_trace_flush(struct fdref_trace *trace);
 
 /* The first fault: the record, counted from 0, and what no trace holds of it, as "record 1: flags that no trace holds",
    or that the file cannot be written. NULL where there was none. */
 const char *fdref_trace_fault(const struct fdref_trace *trace);
 
-/* Writes all records and frees the trace. 0: the file has every record. */
+/* Writes all records and frees the trace. 0: the file has every record; else -1, with the errno of the first fault. */
 int fdref_trace_close(struct fdref_trace *trace);
 
 /* An act, and its arguments. The functions below make each. */
@@ -250,7 +267,7 @@ struct fdref_outcome {
 /* The number that stands for a process in the record that closes a run. */
 #define FDREF_HOUSE INT64_C(4294967295)
 
-/* Records what an act of a process came to. */
+/* Records what an act of a process came to. 0, or -1 where it or one before it cannot be recorded. */
 int fdref_record(struct fdref_trace *trace, int64_t process, struct fdref_act act, struct fdref_outcome outcome);
 
 /* The acts, to be recorded. */
@@ -991,12 +1008,16 @@ struct fdref *fdref_attach_within(const char *path, pid_t child, unsigned second
 
 const char *fdref_no_process(int number)
 {
-    if (number == ECONNRESET)
-        return "the server ended, or had no memory or no thread for this process";
-    if (number == ETIMEDOUT)
+    switch (number) {
+    case ECONNRESET: return "the server ended, or had no memory, descriptor or thread for this process";
+    case ETIMEDOUT:
         return "no answer: all sessions are taken, the server can take no further connection, or no fdref listens "
                "there";
-    return strerror(number);
+    case EAGAIN: return "the run has as many processes as it may";
+    case EDQUOT: return "the run has no record free for this process";
+    case ESRCH: return "there is no child of this number to be attached";
+    default: return strerror(number);
+    }
 }
 
 /* The server hangs up once the exit is recorded. */

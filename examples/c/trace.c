@@ -82,14 +82,17 @@ static int my_close(int fd)
 
 int main(int count, char **words)
 {
-    struct fdref_trace *trace = NULL;
+    struct fdref_trace *trace;
     char buffer[9];
 
-    if (count == 2)
-        trace = fdref_trace_open_of(words[1], RECORDS, FDREF_PIPE_CAPACITY, FDREF_FILE_SIZE);
-    if (!trace) {
-        fprintf(stderr, "usage: trace FILE, which can be written\n");
+    if (count != 2) {
+        fprintf(stderr, "usage: trace FILE\n");
         return 2;
+    }
+    trace = fdref_trace_open_of(words[1], RECORDS, FDREF_PIPE_CAPACITY, FDREF_FILE_SIZE);
+    if (!trace) {
+        perror(words[1]);
+        return 1;
     }
     for (int fd = 0; fd < OPEN_FILES; fd++)
         offsets[fd] = -1;

@@ -9,15 +9,26 @@
 
 #include <stdio.h>
 #include <stdlib.h>
+#include <string.h>
 
 #define FDREF_IMPLEMENTATION
 #include "fdref.h"
 
-/* Ends the example where a call fails. */
+/* Ends the example where a call fails: why is told by fdref's name, as RunFull, where perror would speak of a quota. */
 static void need(int done, const char *what)
 {
+    const char *name = fdref_error_name(errno);
     if (!done) {
-        perror(what);
+        fprintf(stderr, "%s: %s\n", what, name ? name : strerror(errno));
+        exit(1);
+    }
+}
+
+/* The same of a process that is to be had. */
+static void need_process(const struct fdref *p, const char *what)
+{
+    if (!p) {
+        fprintf(stderr, "%s: %s\n", what, fdref_no_process(errno));
         exit(1);
     }
 }
@@ -37,7 +48,7 @@ static struct fdref *forked(struct fdref *p, const char *path)
     tell(p);
     printf("fork = %d\n", (int)number);
     child = fdref_attach(path, number);
-    need(child != NULL, "attach");
+    need_process(child, "attach");
     tell(child);
     printf("attach = ok\n");
     return child;
@@ -55,7 +66,7 @@ int main(int count, char **words)
         return 2;
     }
     readers[0] = fdref_join_within(words[1], 10);
-    need(readers[0] != NULL, words[1]);
+    need_process(readers[0], words[1]);
     tell(readers[0]);
     printf("join = 0\n");
     need(fdref_pipe(readers[0], ends) == 0, "pipe");

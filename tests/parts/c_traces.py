@@ -1,5 +1,6 @@
 """Traces that are written in C, and the examples in C."""
 
+import errno
 import os
 from collections.abc import Iterator, Sequence
 from functools import partial
@@ -11,7 +12,7 @@ from support.auditing import illegal, legal
 from support.counting import Case, require, same
 from support.players import traced
 from support.running import run
-from support.serving import Server, report
+from support.serving import SECONDS, Server, report
 
 import fdref
 
@@ -91,10 +92,34 @@ def tells_usage(build: Build, name: str) -> None:
     require(ran.status == 2 and ran.stderr.startswith(f"usage: {name} ".encode()), ran.said())
 
 
+# Where the example meets the end of a run that has so many records, and how it tells that.
+FULL = [
+    (2, "{}: the run has no record free for this process"),
+    (3, "pipe: RunFull"),
+    (6, "attach: the run has no record free for this process"),
+]
+
+
+def meets_full_runs(program: str, build: Build) -> None:
+    """Where a run is full the example says so by fdref's words, and not by those of the number."""
+    for records, why in FULL:
+        with Server(program, 3, records) as server:
+            ran = run([build.program("two_readers"), server.path], seconds=SECONDS)
+            same((1, f"{why.format(server.path)}\n".encode()), (ran.status, ran.stderr))
+
+
+def cannot_write(build: Build) -> None:
+    """Where the trace cannot be written the example says which and why."""
+    path = "/no/such/trace"
+    same((1, b"", f"{path}: {os.strerror(errno.ENOENT)}\n".encode()), run([build.program("trace"), path]))
+
+
 def examples(program: str, builds: Sequence[Build], folder: str) -> Iterator[Case]:
     """The examples in C."""
     for build in builds:
         yield f"two readers, {build.name}", partial(two_readers, program, build)
         yield f"a trace with a mistake, {build.name}", partial(mistake, program, build, folder)
+        yield f"two readers in a run that is full, {build.name}", partial(meets_full_runs, program, build)
+        yield f"a trace that cannot be written, {build.name}", partial(cannot_write, build)
         for name in ("two_readers", "trace"):
             yield f"{name} without words, {build.name}", partial(tells_usage, build, name)

@@ -121,6 +121,12 @@ def flags_and_rename(process: fdref.Process) -> None:
     same(errno.ENOENT, raises(fdref.CallError, process.open, "b", os.O_RDONLY).errno)
 
 
+# What is told where the run has no record for a call, where the server closes the connection, and of each later call.
+FULL = "RunFull: no record of --records is free for it, since one is kept for each exit and one for the end of the run"
+CLOSED = "the server has closed the connection"
+ENDED = "the process has ended"
+
+
 def faults(program: str) -> None:
     """What a call raises: an error number, a refusal, and a connection that is lost."""
     with Server(program, 4, 60) as server, joined(server) as process:
@@ -146,8 +152,16 @@ def faults(program: str) -> None:
         raises(ValueError, process.write, 1, bytes(65_701))
         raises(ValueError, process.open, "a", os.O_RDONLY | os.O_SYNC)
         raises(ValueError, process.setfl, 1, os.O_SYNC)
-        raises(OverflowError, process.close, 2**31)
-        raises(OverflowError, process.read, 0, -1)
+        out_of_range: list[tuple[str, Callable[..., object], tuple[object, ...]]] = [
+            (f"{2**31} is not from {-(2**31)} to {2**31 - 1}", process.close, (2**31,)),
+            (f"{-(2**31) - 1} is not from {-(2**31)} to {2**31 - 1}", process.close, (-(2**31) - 1,)),
+            (f"-1 is not from 0 to {2**32 - 1}", process.read, (0, -1)),
+            (f"{2**32} is not from 0 to {2**32 - 1}", process.read, (0, 2**32)),
+            (f"{2**63} is not from {-(2**63)} to {2**63 - 1}", process.lseek, (0, 2**63, os.SEEK_SET)),
+            (f"-1 is not from 0 to {2**32 - 1}", fdref.attach, (server.path, -1)),
+        ]
+        for told, call, values in out_of_range:
+            same(told, str(raises(OverflowError, call, *values)))
         raises(TypeError, process.read, 0, 2.5)
         raises(TypeError, process.close, "0")
         raises(ValueError, fdref.join, server.path, -1)
@@ -156,13 +170,15 @@ def faults(program: str) -> None:
         same((errno.ESRCH, 12), (raised.errno, raised.place))
         for _ in range(45):
             raises(fdref.CallError, process.close, 7)
-        same("RunFull", raises(fdref.Refused, process.close, 7).reason)
+        refusal = raises(fdref.Refused, process.close, 7)
+        same(("RunFull", FULL), (refusal.reason, str(refusal)))
         same(57, process.place)
         same("RunFull", raises(fdref.Refused, fdref.join, server.path).reason)
         server.process.kill()
         server.process.wait()
         # it has not the number of an answer about a pipe
-        same(errno.ECONNRESET, raises(ConnectionResetError, process.close, 7).errno)
+        lost = raises(ConnectionResetError, process.close, 7)
+        same((errno.ECONNRESET, CLOSED, server.path), (lost.errno, lost.strerror, lost.filename))
         for path in (server.path, "/no/such/socket"):
             same(path, getattr(raised_by(fdref.join, path), "filename", None))
         raised = raises(OSError, fdref.join, "a" * 200)
@@ -196,6 +212,68 @@ def full_while_waiting(program: str) -> None:
             # of either kind: the server may still read the request, or not
             require(isinstance(raised_by(process.close, 0), ConnectionError), "the process goes on")
         server.ended(report(2, 9, 5, 0))
+
+
+def as_told(met: Sequence[Exception | None]) -> list[tuple[type, str]]:
+    """The types and the texts of exceptions."""
+    return [(type(it), str(it)) for it in met]
+
+
+def waiting_elsewhere(process: fdref.Process) -> tuple[threading.Thread, list[Exception | None]]:
+    """A thread in which a call of a process waits, and what that will raise."""
+    met: list[Exception | None] = []
+    waits = threading.Event()
+    process.on_wait = lambda place, moved: waits.set()
+    thread = threading.Thread(target=lambda: met.append(raised_by(process.read, 0, 5)), daemon=True)
+    thread.start()
+    require(waits.wait(SECONDS), "the call does not wait")
+    return thread, met
+
+
+def lost_while_waiting(program: str) -> None:
+    """Where the server ends while a call waits, it is told that it did, and which server."""
+    with Server(program, 1) as server:
+        process = joined(server)
+        same((0, 1), process.pipe())
+        thread, met = waiting_elsewhere(process)
+        server.process.kill()
+        server.process.wait()
+        thread.join(SECONDS)
+        same([(ConnectionResetError, str(OSError(errno.ECONNRESET, CLOSED, server.path)))], as_told(met))
+        same([(ConnectionError, ENDED)], as_told([raised_by(process.close, 0)]))
+        process.exit()
+
+
+def exited_by_another(program: str) -> None:
+    """An exit that another thread makes ends a call that waits, and is recorded when it returns."""
+    with Server(program, EXITS) as server:
+        for number in range(EXITS):
+            process = joined(server)
+            same((0, 1), process.pipe())
+            thread, met = waiting_elsewhere(process)
+            process.exit()
+            thread.join(SECONDS)
+            same([(ConnectionError, ENDED)], as_told(met))
+            same(4 * number + 2, process.place)
+        server.ended(report(EXITS, 4 * EXITS + 1))
+
+
+def exited_at_a_server_that_stays() -> None:
+    """So does an exit that the server leaves alone, once its limit has passed."""
+    listener = Listener()
+    listener.socket.listen(1)
+    with contextlib.closing(listener), contextlib.ExitStack() as stack:
+        answering = threading.Thread(target=lambda: stays(listener, stack, "parked 0"), daemon=True)
+        answering.start()
+        process = fdref.join(listener.path, within=SECONDS)
+        thread, met = waiting_elsewhere(process)
+        with mock.patch("fdref.EXIT_WITHIN", A_WHILE), warnings.catch_warnings(record=True) as caught:
+            warnings.simplefilter("always")
+            process.exit()
+        thread.join(SECONDS)
+        same([(ConnectionError, ENDED)], as_told(met))
+        same([STAYS.format(listener.path, A_WHILE)], [str(it.message) for it in caught])
+        answering.join(SECONDS)
 
 
 class BrokenOff(Exception):
@@ -298,10 +376,12 @@ def with_a_server_that_stays() -> None:
             answering.join(SECONDS)
 
 
-def stays(listener: Listener, stack: contextlib.ExitStack) -> None:
-    """Takes a connection, answers a join, and keeps it open."""
+def stays(listener: Listener, stack: contextlib.ExitStack, *later: str) -> None:
+    """Takes a connection, answers a join, and perhaps what is asked later, and keeps it open."""
     taken = stack.enter_context(listener.socket.accept()[0])
-    taken.sendall(answer_of(3, "5"))
+    for place, outcome in enumerate(("5", *later), 3):
+        taken.recv(PIECE)
+        taken.sendall(answer_of(place, outcome))
 
 
 def with_another_server() -> None:
@@ -331,7 +411,7 @@ def with_an_ended_server(is_taken: bool) -> None:
         thread.start()
         raised = raises(ConnectionResetError, lambda: fdref.join(listener.path, within=SECONDS))
         thread.join(SECONDS)
-        wanted = (errno.ECONNRESET, "the server ended, or had no memory or no thread for this process", listener.path)
+        wanted = (errno.ECONNRESET, "the server ended, or had no memory, descriptor or thread for this process", listener.path)
         same(wanted, (raised.errno, raised.strerror, raised.filename))
 
 
@@ -391,6 +471,13 @@ EXAMPLE = b"""\
 """
 
 
+def until_listening(server: Server) -> None:
+    """Waits until a server listens."""
+    while not is_listening(server.path):
+        require(server.is_running(), "the server has ended")
+        time.sleep(0.01)
+
+
 def example(program: str, has_own_server: bool) -> None:
     """The example gives its lines, with a server that it starts itself or with one that is there."""
     words = [sys.executable, str(EXAMPLES / "shared_pipe.py")]
@@ -399,9 +486,7 @@ def example(program: str, has_own_server: bool) -> None:
         same((0, EXAMPLE + report(2, 11, 11, 11), b""), outcome_of(started(words)))
         return
     with Server(program, 2) as server:
-        while not is_listening(server.path):
-            require(server.is_running(), "the server has ended")
-            time.sleep(0.01)
+        until_listening(server)
         same((0, EXAMPLE, b""), outcome_of(started([*words, "--socket", server.path])))
         server.ended(report(2, 11, 11, 11))
 
@@ -418,6 +503,14 @@ def example_has_no_server(words: Sequence[str], why: str) -> None:
     """Where the example has no server it says why in one line, and ends with 3."""
     ran = outcome_of(started([sys.executable, str(EXAMPLES / "shared_pipe.py"), *words]))
     same((3, b"", f"shared_pipe.py: {why}\n".encode()), ran)
+
+
+def example_is_refused(program: str) -> None:
+    """Where the run has no record for a call, the example says that, too."""
+    with Server(program, 2, 4) as server:
+        until_listening(server)
+        ran = outcome_of(started([sys.executable, str(EXAMPLES / "shared_pipe.py"), "--socket", server.path]))
+        same((3, b"", f"shared_pipe.py: {FULL}\n".encode()), ran)
 
 
 # ---- the bytes of the client, and those of the tests
@@ -556,6 +649,9 @@ def cases(program: str) -> Iterator[Case]:
     yield "an exit of the client", partial(exits, program)
     yield "a run that is full while the client waits", partial(full_while_waiting, program)
     yield "a call of the client that is broken off", partial(broken_off, program)
+    yield "a server that ends while the client waits", partial(lost_while_waiting, program)
+    yield "an exit while another thread waits", partial(exited_by_another, program)
+    yield "an exit while another thread waits, at a server that stays", exited_at_a_server_that_stays
     yield "a server without a place", partial(without_a_place, program)
     yield "a queue without a place", with_a_full_queue
     yield "a server that stays", with_a_server_that_stays
@@ -566,6 +662,7 @@ def cases(program: str) -> Iterator[Case]:
     yield "a call within a call", partial(one_call_at_a_time, program)
     yield "the example with a server of its own", partial(example, program, True)
     yield "the example with a server that is there", partial(example, program, False)
+    yield "the example in a run that is full", partial(example_is_refused, program)
     for words, why in NO_SERVER:
         yield f"the example with {' '.join(words)}", partial(example_has_no_server, words, why)
     yield "the requests of the client are those of the tests", agrees_on_requests

@@ -184,6 +184,12 @@ def example(program: str, trace: str, words: Sequence[str], wanted: Ran) -> None
     same(wanted, run([program, "audit", trace]))
 
 
+def example_fails(path: str, words: Sequence[str], status: int, why: str) -> None:
+    """Where the example can write no trace it says why in its last line."""
+    ran = run([sys.executable, str(EXAMPLES / "emulator_trace.py"), *words, path])
+    same((status, b"", why), (ran.status, ran.stdout, ran.stderr.decode().splitlines()[-1]))
+
+
 def documented(program: str, folder: str) -> None:
     """The trace that the client's documentation shows is legal."""
     text = fdref.__doc__ or ""
@@ -219,6 +225,11 @@ def cases(program: str, seed: str) -> Iterator[Case]:
         yield "the trace of the documentation", partial(documented, program, folder)
         yield "the example", partial(example, program, path, [], legal(9))
         yield "the example with a mistake", partial(example, program, path, ["--mistake"], illegal(5, "x6c6c6f"))
+        no_number = "emulator_trace.py: error: argument --records: -1 is no number of records: 0, or from 1 to 1000000"
+        yield "the example in -1 records", partial(example_fails, path, ["--records", "-1"], 2, no_number)
+        astray = os.path.join(folder, "no", "trace")
+        no_folder = f"emulator_trace.py: {astray}: {os.strerror(errno.ENOENT)}"
+        yield "the example without a folder", partial(example_fails, astray, [], 1, no_folder)
         for records, verdict in (("10", legal(9)), ("9", illegal(7, None))):
             words = ["--records", records]
             yield f"the example in {records} records", partial(example, program, path, words, verdict)

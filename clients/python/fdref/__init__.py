@@ -10,7 +10,8 @@
 `join` opens a connection as a new process, `attach` as a child that a process has forked. The calls
 are methods that have the names, the arguments and the values of the functions in the module `os`;
 `getfl` and `setfl` are F_GETFL and F_SETFL of `fcntl`. A process makes one call at a time, so only
-one thread at a time may use it; give each process a thread of its own.
+one thread at a time may use it; give each process a thread of its own. `exit` alone may come from
+another thread: it ends a call that waits.
 
 A server takes as many connections as its `--sessions` says, or its descriptors allow. One more connects, but nothing
 ever answers it; `join` and `attach` then raise NoPlace. Other answers are waited for without a limit, unless
@@ -34,9 +35,10 @@ What a call can end in:
   - `Refused`, where the run could not record the call; its `reason` is RunFull, NoMemory, Waiting,
     NotHere or Foreign. The process may go on, but not after RunFull in a call that waits: its session ends then, and
     the next call is a ConnectionError, nearly always ConnectionResetError;
-  - ConnectionError, where the connection is lost, or what came is no answer of the call. The process
-    has ended then, as it has after a call that is broken off in any other way, by KeyboardInterrupt or
-    by what `on_wait` or the handler of a signal raises, which comes out of the call as it is;
+  - ConnectionError, where the connection is lost, as a ConnectionResetError that names the server, or where what came
+    is no answer of the call, or another thread has called `exit`. The process has ended then, as it has after a call
+    that is broken off in any other way, by KeyboardInterrupt or by what `on_wait` or the handler of a signal raises,
+    which comes out of the call as it is;
   - `NoAnswer`, a TimeoutError, where no answer came within `process.timeout`. The process has ended then, too;
   - OverflowError, ValueError or TypeError, where an argument has no place in a request. Nothing was sent;
   - RuntimeError, where a call of the process is under way, in another thread, or where `on_wait` or the handler of a
@@ -86,7 +88,7 @@ import warnings
 from collections.abc import Callable, Iterable, Sequence
 from dataclasses import dataclass
 from functools import partial
-from typing import Any, NamedTuple
+from typing import Any, NamedTuple, NoReturn
 
 # The flags of an open that reads neither nor writes, which is EINVAL. (O_RDONLY is 0, so no flag at
 # all asks to read.)
@@ -114,9 +116,10 @@ FIRST_ANSWER = 10.0
 # How many seconds an exit waits at most for the server to close the connection. One that runs does so at once.
 EXIT_WITHIN = 10.0
 
-# What is told where the connection is at its end, and where it was so before the first answer.
+# What is told where the connection is at its end, where it was so before the first answer, and of each later call.
 CLOSED = "the server has closed the connection"
-UNPLACED = "the server ended, or had no memory or no thread for this process"
+UNPLACED = "the server ended, or had no memory, descriptor or thread for this process"
+ENDED = "the process has ended"
 
 # How a connection tells that it is lost.
 LOST = (errno.ECONNRESET, errno.ENOTCONN, errno.EPIPE)
@@ -129,6 +132,14 @@ ERRORS = (
     "ENAMETOOLONG EMFILE ENFILE ENOSPC EAGAIN EPIPE ENXIO ESRCH"
 ).split()
 REFUSALS = {17: "NoMemory", 18: "RunFull", 19: "Waiting", 20: "NotHere", 21: "Foreign"}
+# Each of these in words.
+WHY_REFUSED = {
+    "NoMemory": "the server has no memory for it",
+    "RunFull": "no record of --records is free for it, since one is kept for each exit and one for the end of the run",
+    "Waiting": "the process waits in a call",
+    "NotHere": "the process is not there, or not attached",
+    "Foreign": "the process is one of another run",
+}
 KINDS = ("regular", "fifo", "pipe")
 BASES = (os.SEEK_SET, os.SEEK_CUR, os.SEEK_END)
 MODES = {os.O_RDONLY: 1, os.O_WRONLY: 2, os.O_RDWR: 3, O_NEITHER: 0}
@@ -146,11 +157,19 @@ class CallError(OSError):
 
 
 class Refused(Exception):
-    """A call that the run did not record, and why. The process may go on, but not after RunFull in a call that waits:
-    its session ends then, and the next call is a ConnectionError, nearly always ConnectionResetError."""
+    """A call, a join or an attach that the run did not record. `reason` is its name, and `str` has it in words:
+
+      - "RunFull": no record is free for it. Of as many as `--records` of the server says, one is kept for the exit of
+        each process and one for the end of the run, so that a process alone has two fewer for its join and its calls;
+      - "NoMemory": the server has no memory for it;
+      - "Waiting", "NotHere" or "Foreign": the process waits in a call, is not there or not attached, or is one of
+        another run.
+
+    The process may go on, but not after RunFull in a call that waits: its session ends then, and the next call is a
+    ConnectionError, nearly always ConnectionResetError."""
 
     def __init__(self, reason: str) -> None:
-        super().__init__(reason)
+        super().__init__(f"{reason}: {WHY_REFUSED[reason]}")
         self.reason = reason
 
 
@@ -185,20 +204,31 @@ def join(path: str | os.PathLike[str], within: float = 0) -> Process:
 
     `within` is in seconds. A server that is only starting is waited for so long, and its first answer no longer than
     that from the call on; where it is 0 the server has to be there, and its first answer is waited for FIRST_ANSWER
-    seconds. NoPlace: the connection was made, and no answer came. ConnectionResetError: the server ended before that,
-    or had no memory or no thread for the process. Less than 0 is a ValueError.
+    seconds. Less than 0 is a ValueError.
+
+    NoPlace: the connection was made, and no answer came. ConnectionResetError: the server ended before that, or had no
+    memory, descriptor or thread for the process. CallError: EAGAIN, since the run has as many processes as it may, 64. Refused:
+    the run has no record free for a process, or no memory. FileNotFoundError or ConnectionRefusedError: no server
+    listens there, or has listened within that time; another OSError, as ENAMETOOLONG, is that of the path. A connection
+    that was made is one of the sessions of the server, also where the run takes no process.
     """
     return Process(path, b"\x01", within=within)
 
 
 def attach(path: str | os.PathLike[str], pid: int, within: float = 0) -> Process:
-    """Connects to the server at a path as process `pid`, a child that nobody has attached yet. `within` is that of
-    `join`."""
+    """Connects to the server at a path as process `pid`, which a `fork` has returned and nobody has attached yet.
+    `within` is that of `join`, and so is what it raises, but a CallError is ESRCH here: there is no such child. A
+    number below 0 or over 2^32 - 1 is an OverflowError."""
     return Process(path, b"\x02" + _number(pid, 4), pid, within)
 
 
 class Process:
     """A process, and the connection that it lives as long as. `join` and `attach` make one.
+
+    Its calls answer as docs/PROFILE.md says. Only `open`, `read` and `write` ever wait, at pipes and FIFOs, for as long
+    as `timeout` allows. Sizes and offsets are in bytes. A process has 32 descriptors, 0 to 31; EMFILE is that none is
+    free. There are no folders: a name has 1 to 64 letters, digits, `.`, `_` and `-`. Another name is ENOENT where it is
+    empty, ENAMETOOLONG or EINVAL, and one of more than 255 bytes a ValueError.
 
     At the end of a `with` block it exits. Another Python process than the one that entered the block, a child of
     `os.fork`, only forgets it there."""
@@ -217,6 +247,8 @@ class Process:
         self._path = os.fspath(path)
         self._timeout: float | None = None
         self._entered_by = os.getpid()
+        # whether `exit` or `forget` was called
+        self._is_left = False
         # held while a call is under way
         self._turn = threading.Lock()
         self._received = bytearray()
@@ -255,7 +287,7 @@ class Process:
         except NoAnswer:
             raise NoPlace(self._path) from None
         except ConnectionError as fault:
-            if fault.errno != errno.ECONNRESET and fault.args != (CLOSED,):
+            if fault.errno != errno.ECONNRESET:
                 raise
             raise ConnectionResetError(errno.ECONNRESET, UNPLACED, self._path) from None
         self.timeout = None
@@ -302,20 +334,29 @@ class Process:
         Else a parent that is killed, or ends without an `exit`, leaves its process there as long as the child lives,
         and a read of a pipe of which that has the other end waits on; and an `exit` in the child ends the process of
         the parent."""
+        self._is_left = True
         self._close()
 
     def exit(self) -> None:
         """Ends the process, as `os._exit` does: the server closes its descriptors. Its exit is recorded when this
         returns, unless the connection was lost, or the server did not close it within EXIT_WITHIN seconds, or `timeout`
-        if that is less: that is told by a RuntimeWarning. After an `exit` or `forget` it does nothing."""
+        if that is less: that is told by a RuntimeWarning. After an `exit` or `forget` it does nothing. A call that
+        another thread waits in ends with a ConnectionError."""
+        self._is_left = True
         if self._socket.fileno() < 0:
             return
         within = EXIT_WITHIN if self.timeout is None else min(EXIT_WITHIN, self.timeout)
         try:
             self._shut_down(time.monotonic() + within)
         except NoAnswer:
+            # so that a call of another thread ends, too
+            _unless_lost(partial(self._socket.shutdown, socket.SHUT_RD))
             told = f"{self._path}: the server has not closed the connection in {within} seconds"
             warnings.warn(f"{told}: the exit may not be recorded yet", RuntimeWarning, stacklevel=2)
+        except OSError:
+            # a call of another thread came to the end first, and has closed the connection
+            if self._socket.fileno() >= 0:
+                raise
         finally:
             self._close()
 
@@ -334,46 +375,57 @@ class Process:
     # -- names
 
     def open(self, name: str | bytes, flags: int) -> int:
-        """Opens a name.
+        """Opens a name, and returns the descriptor.
 
         `flags` are O_RDONLY, O_WRONLY, O_RDWR or O_NEITHER, with any of O_CREAT, O_EXCL, O_TRUNC, O_APPEND and
-        O_NONBLOCK.
+        O_NONBLOCK; others are a ValueError. There is no mode. An open of a FIFO waits until its other end is opened.
+        With O_NONBLOCK it does not: for writing that is ENXIO then.
         """
         return self._call("open", name, flags)
 
     def mkfifo(self, name: str | bytes) -> None:
+        """Makes a FIFO."""
         return self._call("mkfifo", name)
 
     def link(self, src: str | bytes, dst: str | bytes) -> None:
+        """Gives the file of the name `src` the name `dst`, too."""
         return self._call("link", src, dst)
 
     def unlink(self, name: str | bytes) -> None:
+        """Takes a name away; its file stays while it is open or has another name."""
         return self._call("unlink", name)
 
     def rename(self, src: str | bytes, dst: str | bytes) -> None:
+        """Gives the file of the name `src` the name `dst` instead; a file that had this name loses it."""
         return self._call("rename", src, dst)
 
     # -- bytes and offsets
 
     def read(self, fd: int, n: int) -> bytes:
-        """Reads at most n bytes; from an empty pipe that somebody can write to it waits."""
+        """Reads at most n bytes, and none at the end; an n over TRANSFER_MOST is EINVAL. From an empty pipe that
+        somebody can write to it waits, or is EAGAIN where O_NONBLOCK is set."""
         return self._call("read", fd, n)
 
     def write(self, fd: int, data: bytes) -> int:
-        """Writes, and returns how many bytes; where a pipe has no room it waits."""
+        """Writes, and returns how many bytes. More than TRANSFER_MOST is EINVAL, and more than DATA_MOST a ValueError.
+        Where a pipe has no room it waits until all is written, or nobody can read it any more. Where O_NONBLOCK is set
+        it writes what goes in at once, or is EAGAIN."""
         return self._call("write", fd, data)
 
     def pread(self, fd: int, n: int, offset: int) -> bytes:
+        """Reads at most n bytes from an offset on, as `read`, and leaves the offset of fd; of a pipe it is ESPIPE."""
         return self._call("pread", fd, n, offset)
 
     def pwrite(self, fd: int, data: bytes, offset: int) -> int:
+        """Writes from an offset on, also under O_APPEND, and leaves the offset of fd; of a pipe it is ESPIPE."""
         return self._call("pwrite", fd, data, offset)
 
     def lseek(self, fd: int, pos: int, how: int) -> int:
-        """Moves the offset; `how` is SEEK_SET, SEEK_CUR or SEEK_END of `os`."""
+        """Moves the offset, and returns it; `how` is SEEK_SET, SEEK_CUR or SEEK_END of `os`, and else a ValueError."""
         return self._call("lseek", fd, pos, how)
 
     def ftruncate(self, fd: int, length: int) -> None:
+        """Sets the length of a file."""
         return self._call("ftruncate", fd, length)
 
     # -- descriptors and processes
@@ -383,9 +435,11 @@ class Process:
         return self._call("close", fd)
 
     def dup(self, fd: int) -> int:
+        """Duplicates a descriptor to the lowest free one, and returns that."""
         return self._call("dup", fd)
 
     def dup2(self, fd: int, fd2: int) -> int:
+        """Duplicates fd to fd2, which is closed if it is open, and returns fd2."""
         return self._call("dup2", fd, fd2)
 
     def pipe(self) -> tuple[int, int]:
@@ -393,6 +447,7 @@ class Process:
         return self._call("pipe")
 
     def fstat(self, fd: int) -> Stat:
+        """Tells kind, size and links."""
         return self._call("fstat", fd)
 
     def getfl(self, fd: int) -> int:
@@ -400,11 +455,14 @@ class Process:
         return self._call("getfl", fd)
 
     def setfl(self, fd: int, flags: int) -> None:
-        """Sets O_APPEND and O_NONBLOCK as they are in `flags`. Of these, what else an open may have is ignored."""
+        """Sets O_APPEND and O_NONBLOCK as they are in `flags`, of all descriptors that share the open file description.
+        What else an open may have is ignored, and other flags are a ValueError."""
         return self._call("setfl", fd, flags)
 
     def fork(self) -> int:
-        """Makes a child that has the same open descriptors, and returns its number; `attach` lets it make calls."""
+        """Makes a child that has the same open descriptors, and returns its number; `attach` lets it make calls. It has
+        them open before that, too: while it has the writing end of a pipe, no read comes to the end. EAGAIN: there are
+        64 processes already."""
         return self._call("fork")
 
     # -- requests and answers
@@ -419,7 +477,7 @@ class Process:
             raise RuntimeError("a call of this process is under way; another thread needs a process of its own")
         try:
             if self._socket.fileno() < 0:
-                raise ConnectionError("the process has ended")
+                raise ConnectionError(ENDED)
             return self._exchange(request)
         except (CallError, Refused):
             raise
@@ -456,20 +514,30 @@ class Process:
 
     def _receive_exactly(self, count: int) -> bytes:
         while len(self._received) < count:
-            some = self._move(select.POLLIN, partial(self._socket.recv, ANSWER_MOST), self._until())
-            if not some:
-                raise ConnectionError(CLOSED)
-            self._received += some
+            self._received += self._move(select.POLLIN, self._recv, self._until())
         taken = bytes(self._received[:count])
         del self._received[:count]
         return taken
 
+    def _recv(self) -> bytes:
+        try:
+            some = self._socket.recv(ANSWER_MOST)
+        except ConnectionResetError:
+            some = b""
+        return some or self._lose()
+
     def _send(self, some: memoryview) -> int:
         try:
             return self._socket.send(some)
-        except BrokenPipeError:
-            # its number is that of an answer about a pipe
-            raise ConnectionResetError(errno.ECONNRESET, CLOSED, self._path) from None
+        except (BrokenPipeError, ConnectionResetError):
+            # the number of the first is that of an answer about a pipe
+            return self._lose()
+
+    def _lose(self) -> NoReturn:
+        """Tells who has ended the connection: an `exit` of another thread, or which server."""
+        if self._is_left:
+            raise ConnectionError(ENDED) from None
+        raise ConnectionResetError(errno.ECONNRESET, CLOSED, self._path) from None
 
     def _until(self) -> float:
         """When a wait that begins now has to end."""
@@ -482,13 +550,22 @@ class Process:
                 return move()
             except BlockingIOError:
                 pass
+            except OSError as fault:
+                # this is no answer about a descriptor: another thread has closed the connection
+                if fault.errno == errno.EBADF and self._socket.fileno() < 0:
+                    self._lose()
+                raise
             self._wait(event, until)
 
     def _wait(self, event: int, until: float) -> None:
         """Waits for an event of the connection. NoAnswer: it is late. Nothing else is taken for that, since the handler
         of a signal may raise a TimeoutError, too; where one returns the wait goes on, no longer than until then."""
         poll = select.poll()
-        poll.register(self._socket, event)
+        try:
+            poll.register(self._socket, event)
+        except ValueError:
+            # another thread has closed the connection
+            self._lose()
         while not poll.poll(min(max(until - time.monotonic(), 0) * 1_000, WAIT_MOST)):
             if time.monotonic() >= until:
                 raise NoAnswer(f"no answer in {self.timeout} seconds", self._path)
@@ -603,7 +680,12 @@ def _read_outcome(some: bytes) -> Any:
 
 
 def _number(value: int, size: int, signed: bool = False) -> bytes:
-    return operator.index(value).to_bytes(size, "big", signed=signed)
+    number = operator.index(value)
+    try:
+        return number.to_bytes(size, "big", signed=signed)
+    except OverflowError:
+        least, most = (-(1 << 8 * size - 1), (1 << 8 * size - 1) - 1) if signed else (0, (1 << 8 * size) - 1)
+        raise OverflowError(f"{number} is not from {least} to {most}") from None
 
 
 def _fd(fd: int) -> bytes:
