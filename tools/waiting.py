@@ -28,6 +28,7 @@ from pathlib import Path
 from typing import NamedTuple
 
 from support.auditing import Audit, Judge, act_of
+from support.frames import MAGICS
 from support.plain_model import DEFAULTS, OLD_LIMITS, Limits, Process, WaitingOpen, WaitingRead, World
 from support.runs import line_of
 from support.texts import several
@@ -45,6 +46,9 @@ CALL_SHOWN = 60
 WAKE_LOST = ": its wake is lost"
 ANY_LOST = ": its wake is lost, or its connection was"
 NO_ROOM = ", and no record was free for its resume"
+
+# What is told of a file that is no trace at all.
+NO_TRACE = "it does not begin with FDTRACE1 or FDTRACE2, as a trace does"
 
 # What is told of a run that goes on.
 UNSEEN = "a connection that has sent nothing yet is not seen"
@@ -129,7 +133,8 @@ class Standing:
     def __init__(self, trace: bytes) -> None:
         audit = Audit(trace, Watching)
         if not audit.verdict.stdout.startswith(b"legal "):
-            raise BadTrace(audit.verdict.stdout.decode().strip())
+            verdict = audit.verdict.stdout.decode().strip()
+            raise BadTrace(verdict if trace.startswith(MAGICS) else f"{verdict}: {NO_TRACE}")
         self.world: World = audit.judge.world
         # how many bytes come after the last whole record
         self.rest = audit.frames.rest
@@ -228,6 +233,8 @@ def standing_in(path: Path) -> Standing:
     """Where the processes of a trace stand. Where a call can go on it is looked once more, a little later."""
     if path.is_fifo():
         raise BadTrace("it is a FIFO, of which somebody else may want the bytes")
+    if path.is_socket():
+        raise BadTrace("it is a socket; the trace of a server is the file of its --trace")
     trace = path.read_bytes()
     with Long(f"goes through a trace of {len(trace):,} bytes, record by record", "waiting.py"):
         first = Standing(trace)
@@ -255,7 +262,9 @@ def main(words: Sequence[str]) -> int:
     try:
         standing = standing_in(Path(args.trace))
     except (BadTrace, OSError) as fault:
-        print(f"waiting: {args.trace}: {fault}", file=sys.stderr)
+        # the text of an OSError has the path again
+        why = fault.strerror if isinstance(fault, OSError) else fault
+        print(f"waiting: {args.trace}: {why}", file=sys.stderr)
         return CANNOT_READ
     print("\n".join(standing.lines()))
     return STANDS_STILL if standing.is_still() else GOES_ON

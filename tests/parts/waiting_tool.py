@@ -1,9 +1,11 @@
 """What tools/waiting.py tells of a trace: who is there, who waits, in what and for whom."""
 
 import contextlib
+import errno
 import io
 import os
 import random
+import socket
 import sys
 import tempfile
 import time
@@ -199,16 +201,30 @@ def cut_trace() -> None:
     same(Ran(0, f"2 bytes left over after the last whole record\n{last}\n".encode(), b""), told(closed))
 
 
+NO_HEADER = b"malformed 0: it does not begin with FDTRACE1 or FDTRACE2, as a trace does\n"
+
+
 def no_trace() -> None:
     """What is no trace, or comes from no run, is told so."""
-    for trace, fault in ((b"FDTRACE9", b"malformed 0"), (trace_of(["0 p0 resume = 0"]), b"illegal 0 expected none")):
+    for trace, fault in (
+        (b"FDTRACE9", NO_HEADER),
+        (b"join\n", NO_HEADER),
+        (header_bytes(2**32 - 1), b"malformed 0\n"),
+        (trace_of(["0 p0 resume = 0"]), b"illegal 0 expected none\n"),
+    ):
         ran = told(trace)
-        require(ran.status == 3 and not ran.stdout and fault in ran.stderr, ran.said())
-    with tempfile.TemporaryDirectory(prefix="fdref-") as folder:
+        require(ran.status == 3 and not ran.stdout and ran.stderr.endswith(b": " + fault), ran.said())
+    with tempfile.TemporaryDirectory(prefix="fdref-") as folder, socket.socket(socket.AF_UNIX) as server:
         os.mkfifo(f"{folder}/fifo")
-        for name, fault in (("none", b"No such file"), ("fifo", b"it is a FIFO")):
-            ran = run([sys.executable, TOOL, f"{folder}/{name}"])
-            require(ran.status == 3 and fault in ran.stderr, ran.said())
+        server.bind(f"{folder}/socket")
+        for name, fault in (
+            ("none", os.strerror(errno.ENOENT)),
+            ("", os.strerror(errno.EISDIR)),
+            ("fifo", "it is a FIFO, of which somebody else may want the bytes"),
+            ("socket", "it is a socket; the trace of a server is the file of its --trace"),
+        ):
+            path = f"{folder}/{name}"
+            same(Ran(3, b"", f"waiting: {path}: {fault}\n".encode()), run([sys.executable, TOOL, path]))
 
 
 def act_in(line: str) -> Act:
