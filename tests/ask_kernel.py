@@ -33,7 +33,7 @@ from typing import Any
 from parts import asked_drivers, planted_answers
 from parts.planted_answers import BOTH_WAYS, FILED, FULL, LEFT_OUT, ORDER, PIPED, STILL, Row
 from stand_ins import wrong_oracle
-from support.counting import Case, Count, Failure, require
+from support.counting import Case, Count, Failure, require, same
 from support.drivers import IS_LINUX, NOT_AN_ACT, Driver
 from support.options import PROGRAM, count_option, end_without, parsed
 from support.places import EXAMPLES, STAND_INS, TOOLS
@@ -388,6 +388,7 @@ def full_pipes_are_compared(bench: Bench) -> None:
         return
     asked = bench.asked(limits=ROOMY)
     require(asked.has_same_room and not asked.counts_bytes, "the room of its pipes is not seen")
+    same(os.sysconf("SC_PAGE_SIZE"), asked.page)
     for number in range(20):
         result = compare.checked(asked, random_lines(SEED, number, 60, "full-pipes", ROOMY))
         require(not result.unexplained, f"script {number}: {result.unexplained and compare.told(result.unexplained)}")

@@ -389,6 +389,12 @@ MEANWHILE = [
     ("100 900 p0 pwrite 0 0 61*8192 = 8192", "200 300 p1 fstat 0 = regular 4096 2", None),
     ("100 900 p0 pwrite 0 0 61*8192 = 8192", "200 300 p1 fstat 0 = regular 16384 1", None),
 ]
+# The same where pages have 16,384 bytes.
+LARGE_PAGES = [
+    ("100 900 p0 pwrite 0 0 61*32768 = 32768", "200 300 p1 fstat 0 = regular 16384 1", "a length grows"),
+    ("100 900 p0 pwrite 0 0 61*32768 = 32768", "200 300 p1 fstat 0 = regular 4096 1", None),
+    ("100 900 p0 pwrite 0 0 61*8192 = 8192", "200 300 p1 fstat 0 = regular 4096 1", None),
+]
 OWN = [
     "0 1 p0 join = 0",
     "2 3 p1 join = 1",
@@ -446,13 +452,13 @@ REPLACED = [
 ]
 
 
-def has_reason(before: list[str], one: str, other: str, reason: str | None) -> None:
-    """A history that no order explains has this reason, or none."""
+def has_reason(before: list[str], one: str, other: str, reason: str | None, page: int = 4_096) -> None:
+    """A history that no order explains has this reason, or none, where pages have so many bytes."""
     (history,) = histories.read_histories("\n".join([*before, one, other]))
     acts = [noted.text().split(" ", 2)[2].partition(" = ")[0] for noted in history]
     script = "\n".join([*acts[: len(before)], "race", *acts[len(before) :]]) + "\n"
     require(not isinstance(race.explained(history), ordering.Explained), "an order explains it")
-    found = race.reason_of(race.Race(script, history))
+    found = race.reason_of(race.Race(script, history, page=page))
     require((found.name if found else "none").startswith(reason or "none"), f"the reason is {found}")
 
 
@@ -460,6 +466,8 @@ def reason_cases() -> Iterator[Case]:
     """Histories that no order explains, each with its reason, and near ones without."""
     for one, other, reason in MEANWHILE:
         yield f"{one} and {other}", partial(has_reason, OWN, one, other, reason)
+    for one, other, reason in LARGE_PAGES:
+        yield f"{one} and {other}, by large pages", partial(has_reason, OWN, one, other, reason, 16_384)
     for one, other, reason in RENAMED:
         yield f"{one} and {other}", partial(has_reason, NAMED, one, other, reason)
     for one, reason in REPLACED:

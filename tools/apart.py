@@ -5,23 +5,24 @@ The calls come in the order in which they came back. Where none overlap that is 
 of several: a reason that is found there may be the one, and need not.
 """
 
+import contextlib
 import itertools
-from collections.abc import Callable, Iterable, Iterator, Mapping, Sequence
+from collections.abc import Callable, Collection, Iterable, Iterator, Mapping, Sequence
 from types import MappingProxyType
 from typing import NamedTuple
 
 from support import plain_model
 from support.commands import ChosenLimits
 from support.histories import UNKNOWN, WAITS, Noted
-from support.ordering import ROOMY, Explained, explain
+from support.ordering import ROOMY, By
 from support.plain_model import Act, Limits, Pipe, World
 from support.replaying import Differs, is_waiting, replayed
 from support.runs import Line, Settled, line_of
-from support.searching import FOREVER, Step
+from support.searching import FOREVER, Search, Step, TooLong
 
 from compare_instead import Appending, ways
-from compare_reasons import APPENDED, Difference, Fillings, Reason, appended_to, follows_append, is_paged_room
-from compare_reasons import is_room, reason_of
+from compare_reasons import APPENDED, OWN, Difference, Fillings, Reason, appended_to, follows_append
+from compare_reasons import is_paged_room, is_room, reason_of
 from compare_runs import act_of, together
 
 # How a reason is looked for.
@@ -106,7 +107,7 @@ class Beside:
         self.run.world = world(limits)
         self.answers: list[str] = []
         self.fillings = Fillings()
-        # the pwrites under append, by their places
+        # the pwrites under append that begin elsewhere than at the end, by their places
         self.appends: list[int] = []
         # how many bytes each pipe was seen to hold
         self.held: dict[Pipe, int] = {}
@@ -157,8 +158,10 @@ class Beside:
                 self.answers[self.waiting[line.number()]] = line.outcome
 
     def see_append(self, act: Act) -> None:
-        """Notes a pwrite under append before it takes place."""
-        self.appends += [len(self.answers)] if appended_to(self.run.world, act) is not None else []
+        """Notes a pwrite under append that begins elsewhere than at the end, before it takes place."""
+        size = appended_to(self.run.world, act)
+        is_elsewhere = size is not None and 0 <= act.fields[1] != size
+        self.appends += [len(self.answers)] if is_elsewhere else []
 
     def lines(self) -> list[Line]:
         """The lines of the run."""
@@ -217,6 +220,7 @@ def apart_at(
     difference = Difference(place, lines, lines[place], lines[place]._replace(outcome=answer), beside.run.world)
     difference.room_seen = beside.held.get(difference.at.pipe, 0) if difference.at and difference.at.pipe else 0
     difference.has_same_room = isinstance(limits, ChosenLimits)
+    difference.put_here = dict(beside.fillings.put)
     if is_one_by_one(history) and all(known[at] for at in known if at != place):
         difference.put = dict(beside.fillings.put)
         # how many pages there are is known where it is said
@@ -248,6 +252,29 @@ def parted(history: Sequence[Noted], limits: Limits, why: Why = reason_of) -> li
         if not it.reason or not it.is_settled:
             break
     return found
+
+
+def of_page(size: int, why: Why = reason_of) -> Why:
+    """How a reason is looked for on a system whose pages may have so many bytes."""
+
+    def of_difference(difference: Difference) -> Reason | None:
+        difference.page, difference.is_page_known = size, False
+        return why(difference)
+
+    return of_difference
+
+
+def furthest(tries: Iterable[list[Apart]]) -> list[Apart]:
+    """The first of some lists of calls in which all have a reason; else that in which the first without one is last."""
+    best: list[Apart] | None = None
+    best_place = -1.0
+    for found in tries:
+        place = next((it.place for it in found if not it.reason), FOREVER)
+        if place > best_place:
+            best, best_place = found, place
+        if place == FOREVER:
+            break
+    return best or []
 
 
 def parted_with_room(history: Sequence[Noted], limits: Limits, why: Why = reason_of) -> list[Apart]:
@@ -286,20 +313,88 @@ def possible(history: Sequence[Noted], limits: Limits, why: Why = reason_of) -> 
 
 
 def excused(
-    history: Sequence[Noted], limits: Limits, states_most: int, seconds: float, why: Why = reason_of
+    history: Sequence[Noted], limits: Limits, states_most: int, seconds: float, *whys: Why
 ) -> tuple[list[Noted], list[Apart]]:
-    """An order of a history, and the calls in it that the model answers otherwise: each of them has a reason. They are
-    none where no such order is found. Where pipes have too little room it is one for larger pipes."""
+    """An order of a history, and the calls in it that the model answers otherwise: each of them has a reason, in the
+    first of some ways to look for these in which that is so. They are none where no such order is found."""
+    excuses = Excuses(history, states_most, seconds)
+    tries = (excuses.found(limits, why) for why in whys or (reason_of,))
+    return next((it for it in tries if it[1]), (excuses.history, []))
+
+
+class Excuses:
+    """Looks for an order of a history in which each call has a reason that the model answers otherwise. Each search is
+    made once."""
+
+    def __init__(self, history: Sequence[Noted], states_most: int, seconds: float) -> None:
+        self.history = came_back(history)
+        self.states_most = states_most
+        self.seconds = seconds
+        self.orders: dict[tuple[type[World], frozenset[int], Limits], list[Noted]] = {}
+
+    def found(self, limits: Limits, why: Why) -> tuple[list[Noted], list[Apart]]:
+        """The order, and these calls, or none; where pipes have too little room for larger pipes. The order of the ends
+        comes first, then one that explains what has no reason there, and last one in which a pwrite under append writes
+        at the end, as what follows from that has a reason in such an order alone."""
+        found = list(differences(self.history, limits, why))
+        if wants_room(found, limits):
+            return self.found(ROOMY, why)
+        if all(it.reason for it in found):
+            return self.history, found
+        doubted = frozenset(it.place for it in found if it.reason)
+        others = frozenset(it.place for it in found if it.reason and it.reason is not APPENDED)
+        tries = [(World, doubted)] if doubted else []
+        tries += [(Appending, others)] if may_append(self.history) else []
+        for world, places in tries:
+            ordered = self.order(world, places, limits)
+            found = list(differences(ordered, limits, why))
+            if found and all(it.reason for it in found):
+                return ordered, found
+        return self.history, []
+
+    def order(self, world: type[World], doubted: frozenset[int], limits: Limits) -> list[Noted]:
+        """The calls in an order that explains in a kind of world what is not doubted, or no calls where none does."""
+        key = world, doubted, limits
+        if key not in self.orders:
+            told = sorted(without_answers(self.history, doubted), key=lambda noted: noted.start)
+            steps = None
+            with contextlib.suppress(TooLong):
+                steps = Search(told, limits, self.states_most, self.seconds, world).order()
+            self.orders[key] = in_order(self.history, steps) if steps else []
+        return self.orders[key]
+
+
+def beside_choice(
+    history: Sequence[Noted], limits: Limits, why: Why, by: Callable[[Sequence[Noted]], By | None]
+) -> tuple[By, list[Noted], list[Apart]] | None:
+    """An order by a choice about bytes in pipes, with the calls in it and those that the model answers otherwise, where
+    each of these changes nothing and has a reason that is fdref's own too; if there is such an order."""
     ordered = came_back(history)
-    found = list(differences(ordered, limits, why))
-    if wants_room(found, limits):
-        return excused(history, ROOMY, states_most, seconds, why)
-    doubted = {it.place for it in found if it.reason}
-    if doubted and len(doubted) < len(found):
-        result = explain(without_answers(ordered, doubted), states_most, seconds, 0, limits)
-        ordered = in_order(ordered, result.steps) if isinstance(result, Explained) else []
-        found = list(differences(ordered, limits, why))
-    return ordered, found if all(it.reason for it in found) else []
+    settled = [it for it in differences(ordered, limits, why) if it.is_settled and it.place not in it.instead]
+    known = {(it.noted.start, it.noted.act): it.noted for it in settled if it.reason and it.reason.who == OWN}
+    places = [at for at, noted in enumerate(ordered) if (noted.start, noted.act) in known]
+    chosen = by(without_answers(ordered, places)) if known else None
+    if not chosen:
+        return None
+    told = [known.get((noted.start, noted.act), noted) for noted in chosen.history]
+    placed = in_order(told, chosen.steps)
+    found = list(differences(placed, chosen.limits, why))
+    is_all = all(it.reason and it.reason.who == OWN and it.noted in known.values() for it in found)
+    return (chosen, placed, found) if found and is_all else None
+
+
+def may_append(history: Iterable[Noted]) -> bool:
+    """Whether a history may have a pwrite under append."""
+    acts = [noted.act for noted in history]
+    flags = (act.fields[1] for act in acts if act.word in ("open", "setfl"))
+    return any(act.word == "pwrite" for act in acts) and any("append" in it for it in flags)
+
+
+def appended_by(history: Sequence[Noted], found: Apart) -> list[Noted]:
+    """The calls of a history, one after another, that are the reason why one of them is answered otherwise, as they
+    append: the last one first."""
+    appending = Beside(history[: found.place + 1], found.limits, Appending, found.instead)
+    return [history[at] for at in reversed(appending.appends)]
 
 
 def followed(history: Iterable[Noted], instead: Instead) -> list[Noted]:
@@ -313,7 +408,7 @@ def followed(history: Iterable[Noted], instead: Instead) -> list[Noted]:
     ]
 
 
-def without_answers(history: Iterable[Noted], places: set[int]) -> list[Noted]:
+def without_answers(history: Iterable[Noted], places: Collection[int]) -> list[Noted]:
     """A history in which the answers of some calls are not known."""
     return [noted._replace(outcome=UNKNOWN) if at in places else noted for at, noted in enumerate(history)]
 

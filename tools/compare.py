@@ -146,9 +146,8 @@ def compared(asked: Asked, lines: list[bytes], link_max: int = LINK_MAX) -> tupl
             beside = Beside(system, asked.limits, known)
             continue
         asked.check_alike(system, fdref, place)
-        difference = difference_at(asked, beside, fdref, place)
+        difference = difference_at(asked, beside, fdref, place, found)
         difference.is_exchanged = place in turned
-        difference.earlier = {it.place: it.fdref for it in found}
         found.append(difference)
         other = given_instead(asked, difference, known)
         if other:
@@ -172,13 +171,18 @@ def links_given(lines: list[Line], limits: Limits) -> int:
     return MANY_LINKS
 
 
-def difference_at(asked: Asked, beside: Beside, fdref: list[Line], place: int) -> Difference:
-    """The difference in a line, with its reason, if it has one."""
+def difference_at(
+    asked: Asked, beside: Beside, fdref: list[Line], place: int, found: Sequence[Difference]
+) -> Difference:
+    """The difference in a line after those that were found, with its reason, if it has one."""
     system = beside.lines
     difference = Difference(place, system, system[place], fdref[place], beside.world_before(place))
+    difference.earlier = {it.place: it.fdref for it in found}
     difference.has_same_room, difference.counts_bytes = asked.has_same_room, asked.counts_bytes
     difference.room_seen = asked.room_seen
+    difference.page = asked.page
     difference.pages, difference.put = dict(beside.fillings.pages), dict(beside.fillings.put)
+    difference.put_here = difference.put
     difference.size_before, difference.ended = beside.sizes.get(place - 1), beside.ended
     difference.for_fdref = {at: beside.known.given(system, at) for at in beside.known.instead}
     difference.is_of_model = beside.known.is_of_model()

@@ -9,7 +9,7 @@ import itertools
 import time
 from pathlib import Path
 
-from support import plain_model
+from support import pages, plain_model
 from support.commands import capacity_words
 from support.counting import Failure
 from support.plain_model import DEFAULTS, PIPE_BUF, PIPE_CAPACITY_LEAST, PIPE_CAPACITY_MOST, TRANSFER_MAX, Limits
@@ -23,8 +23,6 @@ from waits import COMPUTES_SECONDS, Long, waits_for
 
 # How long the driver or fdref may take for a script.
 SECONDS = 120.0
-# Systems give a pipe memory in pages of so many bytes.
-PAGE = 4_096
 ORDERS_MOST = 150
 # How many sizes of writes are tried in one run.
 SIZES_AT_ONCE = 16
@@ -103,14 +101,15 @@ class Asked:
         self.all_room = min(self.all_rooms)
         self.has_same_room = set(self.all_rooms) == {limits.capacity}
         self.counts_bytes = self.rooms(3_000, 3_000) == self.all_rooms
-        self.room_seen = self.all_room if self.counts_bytes else max(self.all_room // 2 - PAGE, 0)
+        self.page = pages.OF_SYSTEM if self.counts_bytes else self.page_size()
+        self.room_seen = self.all_room if self.counts_bytes else max(self.all_room // 2 - self.page, 0)
         self.pipe_buf = self.most_at_once() if self.has_same_room and self.counts_bytes else PIPE_BUF
 
     def with_room(self) -> "Asked | None":
         """The same, where pipes of fdref hold as many bytes as those of the system; or None where they do, or cannot,
         or where these have neither bytes nor whole pages, or FIFOs have other room."""
         can_have = PIPE_CAPACITY_LEAST <= self.all_room <= PIPE_CAPACITY_MOST
-        is_known = self.counts_bytes or self.all_room % PAGE == 0
+        is_known = self.counts_bytes or self.all_room % self.page == 0
         if self.has_same_room or self.told_rooms() or not can_have or not is_known:
             return None
         other = copy.copy(self)
@@ -157,6 +156,13 @@ class Asked:
         except CannotRun:
             of_pipe = 0
         return of_fifo, of_pipe or of_fifo
+
+    def page_size(self) -> int:
+        """How many bytes a page of a FIFO of the system has: a byte in one leaves nothing of it to a large write. Where
+        that tells no size of a page, it is that of the system at hand."""
+        calls = [b"p0 write 1 61*%d" % size for size in (1, TRANSFER_MAX, TRANSFER_MAX)]
+        size = self.all_rooms[0] + 1 - sum(map(moved, self.fifo(calls)))
+        return size if size in pages.SIZES else pages.OF_SYSTEM
 
     def told_rooms(self) -> list[str]:
         """What is told where FIFOs have other room than pipes."""

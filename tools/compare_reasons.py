@@ -7,12 +7,13 @@ import re
 from collections.abc import Callable, Iterator
 from typing import Any, NamedTuple
 
-from support import plain_model, walks
+from support import pages, plain_model, walks
 from support.plain_model import NAME_MAX, OFFSET_MAX, OPEN_MAX, PIPE_BUF, TRANSFER_MAX
 from support.runs import Line
+from support.sharing import are_turns
 
-from compare_lines import PAGE, is_moved, moved
-from compare_runs import act_of
+from compare_lines import is_moved, moved
+from compare_runs import act_of, is_told_back
 
 # How many bytes of a read the driver sees at most.
 READ_MOST = 1_048_576
@@ -51,10 +52,14 @@ class Difference:
         self.has_same_room = self.counts_bytes = False
         # how many bytes it was seen to hold, in whatever pieces they came
         self.room_seen = 0
-        # how many pages what was put into each pipe since it was empty takes at most, where that is known
-        self.pages: dict[plain_model.Pipe, int] | None = None
-        # and how many bytes that was
+        # how many bytes a page of the system has, and whether that is known, or only tried
+        self.page = pages.OF_SYSTEM
+        self.is_page_known = True
+        # where it is known, how many pages of each size what was put into each pipe since it was empty takes at most
+        self.pages: dict[plain_model.Pipe, PagesOf] | None = None
+        # and how many bytes that was, where it is known, and in the order at hand
         self.put: dict[plain_model.Pipe, int] | None = None
+        self.put_here: dict[plain_model.Pipe, int] = {}
         # whether it is a pipe whose ends have changed places since
         self.is_exchanged = False
         # how long the file was before the pwrite under append that it follows, if that is known
@@ -125,7 +130,8 @@ class Difference:
         """Whether system and fdref are in the same state after it, so that the run can go on."""
         is_look = self.words("fstat", "getfl") and not follows_append(self)
         is_same = self.are_errors() or is_unchecked(self) or is_vain(self) or self.system == "not asked"
-        return self.is_followed or is_same or is_look or (self.is_exchanged and is_turned(self))
+        is_even = (self.is_exchanged and is_turned(self)) or is_shared_evenly(self)
+        return self.is_followed or is_same or is_look or is_even
 
 
 def process_of(world: plain_model.World, act: plain_model.Act) -> plain_model.Process | None:
@@ -292,7 +298,7 @@ def may_give(it: Difference, outcome: str) -> bool:
     whole, held, waits = it.count(), len(it.at.pipe.data), not it.at.nonblock
     has_parts = whole > PIPE_BUF and (not waits or (it.fdref.isdigit() and int(it.fdref) < whole))
     if outcome.isdigit():
-        is_filled = not waits and (not held or whole <= PAGE)
+        is_filled = not waits and (not held or whole <= it.page)
         least = max(PIPE_BUF - held, 1) if is_filled else 1
         return (least if has_parts else whole) <= int(outcome) <= whole
     if outcome.startswith("parked "):
@@ -333,10 +339,10 @@ def most_after(it: Difference) -> int:
     assert it.at and it.at.pipe
     whole, is_part = it.count(), it.system.isdigit()
     if it.system == "error EAGAIN" and whole > PIPE_BUF and it.put is not None:
-        is_part = whole + it.put.get(it.at.pipe, 0) <= PAGE
+        is_part = whole + it.put.get(it.at.pipe, 0) <= it.page
     if is_part:
-        return 0 if it.counts_bytes or whole <= PAGE else PAGE - 1
-    return whole - 1 if it.counts_bytes else min(whole, PAGE) - 1
+        return 0 if it.counts_bytes or whole <= it.page else it.page - 1
+    return whole - 1 if it.counts_bytes else min(whole, it.page) - 1
 
 
 def room_left(it: Difference) -> int:
@@ -360,16 +366,21 @@ def is_room(it: Difference) -> bool:
     return has_other_room and is_moved(it.fdref) and may_give(it, it.system)
 
 
-def pages_of(count: int) -> int:
-    """How many pages so many bytes take at most, which one call has moved."""
-    return -(-count // PAGE)
+# How many pages of each size something takes.
+PagesOf = dict[int, int]
+
+
+def pages_of(count: int, before: PagesOf) -> PagesOf:
+    """How many pages so many bytes take at most, which one call has moved, together with those before."""
+    return {size: before.get(size, 0) - (-count // size) for size in {*pages.SIZES, pages.OF_SYSTEM}}
 
 
 class Fillings:
-    """What was put into each pipe since it was empty: how many pages that takes at most, and how many bytes it is."""
+    """What was put into each pipe since it was empty: how many pages of each size that takes at most, and how many
+    bytes it is."""
 
     def __init__(self) -> None:
-        self.pages: dict[plain_model.Pipe, int] = {}
+        self.pages: dict[plain_model.Pipe, PagesOf] = {}
         self.put: dict[plain_model.Pipe, int] = {}
 
     def take(self, run: plain_model.Run, act: plain_model.Act) -> None:
@@ -382,7 +393,7 @@ class Fillings:
         has_more = len(run.lines) > count + 1
         for pipe, before in held.items():
             more = pipe.capacity if has_more else max(len(pipe.data) - before, 0)
-            self.pages[pipe] = self.pages.get(pipe, 0) + pages_of(more) if pipe.data else 0
+            self.pages[pipe] = pages_of(more, self.pages.get(pipe, {})) if pipe.data else {}
             self.put[pipe] = self.put.get(pipe, 0) + more if pipe.data else 0
 
 
@@ -390,7 +401,7 @@ def has_free_pages(it: Difference, pipe: plain_model.Pipe) -> bool:
     """Whether more of a write fits into the pages that a pipe has free in any case than went in on the system."""
     if it.pages is None:
         return False
-    free = pipe.capacity - PAGE * it.pages.get(pipe, 0)
+    free = pipe.capacity - it.page * it.pages.get(pipe, {}).get(it.page, 0)
     # one that is refused has moved nothing; where one waits it is not seen how much it has
     return it.count() <= free or (it.system != "parked ?" and moved(it.system) < free)
 
@@ -404,7 +415,7 @@ def is_paged_room(it: Difference) -> bool:
     """
     call = it.waiting_write()
     pipe = call.pipe if call else it.at.pipe if it.at else None
-    if it.counts_bytes or not pipe or pipe.capacity % PAGE:
+    if it.counts_bytes or not pipe or pipe.capacity % it.page:
         return False
     if call:
         return is_paged_resume(it, call)
@@ -413,9 +424,13 @@ def is_paged_room(it: Difference) -> bool:
     if not it.words("write") or not may_give(it, it.system) or not is_moved(it.fdref) or has_free_pages(it, pipe):
         return False
     held, fdref = len(pipe.data), moved(it.fdref)
+    # a large page that is only tried is believed where there are two of them, and as much was put in as they take
+    is_doubtful = it.page > pages.SIZES[0] and not it.is_page_known
+    if is_doubtful and not 2 * it.page <= pipe.capacity < 2 * it.put_here.get(pipe, 0):
+        return False
     # how many bytes of a large write have gone in is not seen on the system while it waits
     is_less = fdref > 0 if it.system == "parked ?" else moved(it.system) < fdref
-    return is_less and held > 0 and held + it.count() > pipe.capacity // 2 - PAGE and not room_left(it)
+    return is_less and held > 0 and held + it.count() > pipe.capacity // 2 - it.page and not room_left(it)
 
 
 def is_paged_resume(it: Difference, call: plain_model.WaitingWrite) -> bool:
@@ -424,7 +439,7 @@ def is_paged_resume(it: Difference, call: plain_model.WaitingWrite) -> bool:
         return False
     if it.world.has_end(call.pipe, "r"):
         waits_on = "still" if call.is_whole else "?"
-        return it.system == waits_on and len(call.pipe.data) > call.pipe.capacity // 2 - PAGE
+        return it.system == waits_on and len(call.pipe.data) > call.pipe.capacity // 2 - it.page
     if call.is_whole:
         return False
     return it.system == "error EPIPE" or (it.system.isdigit() and 0 < int(it.system) < int(it.fdref))
@@ -493,6 +508,46 @@ def is_set_while_read_waits(it: Difference) -> bool:
     if not isinstance(call, plain_model.WaitingRead) or it.system != "error EAGAIN" or not it.gives("still"):
         return False
     return it.process is not None and is_set(it.process, call.pipe, "r")
+
+
+def is_shared(it: Difference) -> bool:
+    """A read that waited beside others of its pipe, and came back with them: together they give the bytes that came
+    first, by turns, each byte once and each read in their order."""
+    call = it.process.waits if it.words("resume") and it.process else None
+    if not isinstance(call, plain_model.WaitingRead):
+        return False
+    places = [at for at in back_together(it) if reads_of_pipe(it, at, call.pipe)]
+    given = {at: plain_model.read_data(it.lines[at].outcome.encode()) for at in places}
+    earlier = [it.earlier.get(at, it.lines[at].outcome) for at in places if at < it.place]
+    parts = [data for data in given.values() if data]
+    there = b"".join(plain_model.read_data(text.encode()) or b"" for text in earlier) + bytes(call.pipe.data)
+    return bool(given.get(it.place)) and len(parts) > 1 and are_turns(there[: sum(map(len, parts))], parts)
+
+
+def back_together(it: Difference) -> range:
+    """The places of the lines of calls that came back after one act, as that of a difference did."""
+    first, end = it.place, it.place + 1
+    while is_told_back(it.lines[first - 1]):
+        first -= 1
+    while end < len(it.lines) and is_told_back(it.lines[end]):
+        end += 1
+    return range(first, end)
+
+
+def reads_of_pipe(it: Difference, place: int, pipe: plain_model.Pipe) -> bool:
+    """Whether a line is that of a read of a pipe that waited, and has come back."""
+    process = it.world.processes.get(it.lines[place].number())
+    own = (line for line in reversed(it.lines[:place]) if line.act.startswith(f"p{it.lines[place].number()} "))
+    act = next((act_of(line) for line in own if line.outcome.startswith("parked ")), "")
+    at = process.table.get(int(act.split(" ")[2])) if process and " read " in act else None
+    return at is not None and at.pipe is pipe
+
+
+def is_shared_evenly(it: Difference) -> bool:
+    """Whether a read that shares bytes with others has as many of them as in fdref."""
+    system, fdref = (plain_model.read_data(text.encode()) for text in (it.system, it.fdref))
+    is_reason = it.reason is not None and it.reason.fits is is_shared
+    return is_reason and system is not None and fdref is not None and len(system) == len(fdref)
 
 
 def is_set(process: plain_model.Process, pipe: plain_model.Pipe, end: str) -> bool:
@@ -784,6 +839,7 @@ REASONS = [
     Reason("order of refusals, where several are due", OWN, "XSH 2.3", is_order),
     Reason("nonblock set while a write waits", OWN, "pages of fcntl and write", is_set_while_write_waits),
     Reason("nonblock set while a read waits", OWN, "pages of fcntl and read", is_set_while_read_waits),
+    Reason("how reads of a pipe at once share its bytes", OWN, "page of read", is_shared),
     Reason("EPIPE of a write that has moved a part", OWN, "page of write", is_broken),
     Reason("who of several writers gets the room of a pipe", OWN, "page of write", is_split_room),
     Reason("a FIFO whose reader waits in its open", OWN, "page of open", is_reader_waiting),

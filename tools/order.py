@@ -23,11 +23,17 @@ Left open, too, is how much a write of more than 512 bytes has moved that waits 
 has gone. Where calls overlap, and no order explains them else, such a write is two in an order: one of what it gave,
 and one of the rest, which is EPIPE: `how much a write has moved that ends early (own)`. A call on a pipe of more than
 65,536 bytes, which fdref does not take, is one or two of fewer then: `more than 65,536 bytes in a call (own)`.
+Left open, last, is what reads of one pipe get that are made at once. Where no order explains them else, they may take
+its bytes by turns, any number at a time, and leave some of them: `how reads of a pipe at once share its bytes (own)`.
+That excuses no byte that is lost, given twice, from nowhere or out of its order, no end of file and no EAGAIN, and no
+read that overlaps none of its pipe which gives bytes. For both, a read with the answer `?` is taken to have given bytes
+that no other read did.
 
-So has a history where each call that fdref answers otherwise has a reason of tools/compare.py that is its own choice:
-where calls overlap, each such call in an order that explains the others. Where none do, a call that is refused has
-changed nothing, and of a short one the model is given what it moved; after another that succeeds in one of the two
-alone, the rest is not compared; that is told.
+A history has a reason, too, where each call that fdref answers otherwise has one of tools/compare.py that is its own
+choice: where calls overlap, each such call in an order that explains the others, also by a choice above, if none of
+these calls changes anything. Where none do, a call that is refused has changed nothing, and of a short one the model is
+given what it moved; after another that succeeds in one of the two alone, the rest is not compared; that is told. Where
+a reason goes by pages, these have one size in a history, from 4,096 to 65,536 bytes.
 A limit of the system that the standard leaves open is one, too: more descriptors than 32, or fewer than that and not
 fewer than 20, larger and smaller files, shorter names, ENOSPC, ENFILE, EAGAIN of fork. A write that is short for want
 of space is none, as it cannot be told from a wrong one; nor is a join that is refused.
@@ -40,7 +46,7 @@ calls that overlap a reason is told as `perhaps` where not each that is answered
 in the order in which they came back. Histories that differ in their times alone are searched once.
 
 A search is given up after --seconds or --states, and a history where its first search is. Where that finds no order
-there are up to 14 more, as with larger pipes and with parts of writes, and twice 20 seconds to make a part short.
+there are up to 46 more, as with larger pipes and with parts of writes, and twice 20 seconds to make a part short.
 
 After several histories the last line counts them. Exit status: 0 where all are explained, or have a reason that is
 fdref's own, 1 where one is not, 2 for wrong words and where HISTORY cannot be read, 3 where fdref could not be run or
@@ -53,27 +59,27 @@ from collections.abc import Sequence
 from pathlib import Path
 from typing import NamedTuple
 
+from support import pages
 from support.commands import ChosenLimits, add_capacity, add_program, program_of
 from support.histories import BadHistory, Noted, form, history_text, read_histories
 from support.ordering import (
     ROOMY,
     SECONDS,
     STATES_MOST,
+    By,
     ByEarlyEnd,
     ByEpipe,
     ByParts,
     ByRoom,
+    ByShares,
     ByTransfer,
     Explained,
     GivenUp,
     Result,
     Unexplained,
-    by_early_end,
-    by_epipe,
-    by_parts,
-    by_room,
-    by_transfer,
+    by_choice,
     explain,
+    with_overlapping,
 )
 from support.pipe_ends import turned
 from support.plain_model import Limits
@@ -84,10 +90,11 @@ from support.texts import several
 
 import apart
 from compare_limits import reason_or_limit
-from compare_reasons import OWN, told_reason
+from compare_reasons import APPENDED, OWN, told_reason
 from waits import Long
 
-# The reason of a history that only larger pipes explain.
+# What is told of a history that only larger pipes explain, and its reason.
+WHERE_ROOMY = f"where a pipe has room for {ROOMY.capacity:,} bytes"
 BY_ROOM = "reason: room of a pipe (own; page of write)"
 # What is told of a history that only writes explain that go in by parts, and its reason.
 IN_PARTS = "where writes of more than 512 bytes to a pipe go in by parts"
@@ -101,6 +108,9 @@ BY_EARLY_END = "reason: how much a write has moved that ends early (own; page of
 # What is told of a history that only calls explain of more bytes than fdref takes, and its reason.
 PAST_MOST = "where calls of more than 65,536 bytes are others, which fdref takes"
 BY_TRANSFER = "reason: more than 65,536 bytes in a call (own; pages of read and write)"
+# What is told of a history that only reads explain which share the bytes of a pipe, and its reason.
+SHARED = "where reads of a pipe at once take its bytes by turns, each byte once and in order"
+BY_SHARES = "reason: how reads of a pipe at once share its bytes (own; page of read)"
 # What is told of a history in which the writing end of a pipe has the lower number.
 TURNED = "where the ends of a pipe change places, by dup2 and close"
 BY_TURN = "reason: which end of a pipe has the lower number (own; page of pipe)"
@@ -108,7 +118,6 @@ NOT_BY_TURN = f"that is told {TURNED}"
 CAPACITY = "; --pipe-capacity tells how many bytes a pipe of the system holds"
 # What is told of the answers of fdref to calls that overlap others.
 IN_ORDER = ", in an order that explains the others"
-WHERE_ROOMY = f"where a pipe has room for {ROOMY.capacity:,} bytes"
 
 EXPLAINED, NOT_EXPLAINED, WRONG_WORDS, CANNOT_RUN, NO_CALL, GIVEN_UP = 0, 1, 2, 3, 4, 5
 
@@ -120,16 +129,18 @@ class Chosen(NamedTuple):
     told: str
 
 
-Answer = Result | ByRoom | ByParts | ByEpipe | ByEarlyEnd | ByTransfer | Chosen
-# What is told of the histories that only parts, or such writes and reads, explain, and the reasons.
+Answer = Result | By | Chosen
+# What is told of the histories that only larger pipes, parts, or such writes and reads explain, and the reasons.
 TOLD: dict[type, tuple[str, str]] = {
+    ByRoom: (WHERE_ROOMY, BY_ROOM),
     ByParts: (IN_PARTS, BY_PARTS),
     ByEpipe: (WITH_EPIPE, BY_EPIPE),
     ByEarlyEnd: (EARLY, BY_EARLY_END),
     ByTransfer: (PAST_MOST, BY_TRANSFER),
+    ByShares: (SHARED, BY_SHARES),
 }
 # The kinds of answers, in the order in which they are counted.
-KINDS = (Explained, Unexplained, GivenUp, ByRoom, ByParts, ByEpipe, ByEarlyEnd, ByTransfer, Chosen)
+KINDS = (Explained, Unexplained, GivenUp, ByRoom, ByParts, ByEpipe, ByEarlyEnd, ByTransfer, ByShares, Chosen)
 
 
 class Orders:
@@ -157,7 +168,7 @@ class Orders:
         if isinstance(result, Explained) and is_new:
             told = self.ordered(history, result)
         else:
-            told = self.unordered(history, result) if is_new else f"as history {first}\n"
+            told = self.unordered(result) if is_new else f"as history {first}\n"
         if exchanged and is_new:
             told += (NOT_BY_TURN if isinstance(result, Unexplained) else BY_TURN) + "\n"
         if not (self.args.quiet and (not isinstance(result, Unexplained | GivenUp) or not is_new)):
@@ -176,21 +187,19 @@ class Orders:
         that go in at once or by parts, and if not why."""
         most = self.args.states, self.args.seconds
         result = explain(history, *most, shrink_seconds=0, limits=self.args.limits)
-        if not isinstance(result, Unexplained):
-            return result
-        rooms = (self.args.limits,) if self.has_room else (self.args.limits, ROOMY)
-        found: Answer | None = None if self.has_room else by_room(history, *most)
-        found = found or by_parts(history, *most, *rooms) or by_epipe(history, *most, *rooms)
-        if not found and not apart.is_one_by_one(history):
-            found = by_early_end(history, *most, *rooms) or by_transfer(history, *most, *rooms)
-        return found or self.unexplained(history)
+        return self.by_choice(history) or self.unexplained(history) if isinstance(result, Unexplained) else result
+
+    def by_choice(self, history: Sequence[Noted]) -> By | None:
+        """An order of a history by a choice of fdref's own about bytes in pipes, if there is one."""
+        most = self.args.states, self.args.seconds
+        return by_choice(history, *most, self.args.limits, self.has_room, not apart.is_one_by_one(history))
 
     def unexplained(self, history: Sequence[Noted]) -> Result | Chosen:
         """Why no order explains a history."""
         ordered = apart.came_back(history)
         if not apart.is_one_by_one(history):
             return self.at_once(history, ordered)
-        found = apart.parted_with_room(ordered, self.args.limits, reason_or_limit)
+        found = apart.furthest(apart.parted_with_room(ordered, self.args.limits, why) for why in whys_of(history))
         if not found:
             return self.explained(history, self.args.limits)
         for it in [*{it.reason: it for it in reversed(found)}.values(), found[-1]]:
@@ -210,20 +219,51 @@ class Orders:
     def at_once(self, history: Sequence[Noted], ordered: Sequence[Noted]) -> Result | Chosen:
         """Why no order explains calls that overlap: by choices, where one explains the others, or with larger pipes,
         where the others have too little room and that is not all."""
-        placed, parted = apart.excused(history, self.args.limits, self.args.states, self.args.seconds, reason_or_limit)
+        limits, whys = self.args.limits, whys_of(history)
+        placed, parted = apart.excused(history, limits, self.args.states, self.args.seconds, *whys)
         for it in {it.reason: it for it in reversed(parted)}.values():
             self.confirm(placed, it)
         departs = next((it for it in parted if it.reason and it.reason.who != OWN), None)
         if departs and departs.reason:
-            return self.with_reason(self.explained(history, departs.limits), told_reason(departs.reason))
+            return self.departed(self.explained(history, departs.limits), placed, departs)
         if parted:
             return self.chosen(parted, (), IN_ORDER)
-        found = apart.possible(ordered, self.args.limits, reason_or_limit)
-        if apart.is_out_of_room(ordered, self.args.limits, reason_or_limit) and not found:
+        both = apart.beside_choice(history, limits, whys[0], self.by_choice)
+        if both:
+            return self.chosen_beside(*both)
+        found = next(filter(None, (apart.possible(ordered, limits, why) for why in whys)), None)
+        if apart.is_out_of_room(ordered, limits, whys[0]) and not found:
             result = self.explained(history, ROOMY)
             if isinstance(result, Unexplained):
                 return result._replace(page=f"{result.page}, {WHERE_ROOMY}")
-        return self.with_perhaps(ordered, self.explained(history, self.args.limits), found)
+        result = self.explained(history, limits)
+        return self.departed_before(history, result, whys) or self.with_perhaps(ordered, result, found)
+
+    def departed(self, result: Result, placed: Sequence[Noted], departs: apart.Apart) -> Result:
+        """What is told of calls that overlap, where the system departs from the standard in a known way: the call that
+        does so is to blame, not the one that shows it."""
+        if not isinstance(result, Unexplained) or not departs.reason:
+            return result
+        why = told_reason(departs.reason)
+        calls = [(noted.start, noted.act) for noted in result.shrunk]
+        causes = apart.appended_by(placed, departs) if departs.reason is APPENDED else []
+        place = next((calls.index((it.start, it.act)) for it in causes if (it.start, it.act) in calls), None)
+        if place is None:
+            return self.with_reason(result, why)
+        return result._replace(blamed=with_overlapping(result.shrunk, place), page=why)
+
+    def departed_before(self, history: Sequence[Noted], result: Result, whys: Sequence[apart.Why]) -> Result | None:
+        """The same, where that is all up to the call that is to blame else, and something is wrong after it, too."""
+        end = result.blamed[0].end if isinstance(result, Unexplained) else None
+        begun = [noted for noted in history if end is not None and noted.start <= end]
+        if not begun or len(begun) == len(history):
+            return None
+        placed, parted = apart.excused(begun, self.args.limits, self.args.states, self.args.seconds, *whys)
+        departs = next((it for it in parted if it.reason and it.reason.who != OWN), None)
+        if not departs:
+            return None
+        self.confirm(placed, departs)
+        return self.departed(result, placed, departs)
 
     def with_perhaps(self, ordered: Sequence[Noted], result: Result, found: apart.Apart | None) -> Result:
         """What is told of calls that overlap, with a reason that may be the one."""
@@ -246,6 +286,14 @@ class Orders:
         if after and not found[-1].is_settled:
             told.append(f"the rest is not compared, {several(len(after), 'call')}")
         return Chosen("\n".join([*told, ""]))
+
+    def chosen_beside(self, by: By, placed: Sequence[Noted], found: Sequence[apart.Apart]) -> Chosen:
+        """What is told of calls that fdref answers otherwise by choices of its own, where an order explains the others
+        by one, too."""
+        verified(self.program, by.history, by.steps, by.limits)
+        for it in {it.reason: it for it in reversed(found)}.values():
+            self.confirm(placed, it)
+        return Chosen(f"{self.chosen(found, (), IN_ORDER).told}{TOLD[type(by)][1]}\n")
 
     def blamed(self, ordered: Sequence[Noted], found: Sequence[apart.Apart], first: apart.Apart) -> Result:
         """What is told of calls, one after another, of which this is the first that is no choice of fdref's own."""
@@ -271,15 +319,11 @@ class Orders:
         lines = verified(self.program, history, result.steps, self.args.limits)
         return "an order explains it\n" + "".join(f"{line.place} {line.act} = {line.outcome}\n" for line in lines)
 
-    def unordered(self, history: Sequence[Noted], result: Answer) -> str:
+    def unordered(self, result: Answer) -> str:
         """What is told of a history without an order, or of one that was given up."""
         if isinstance(result, Chosen):
             return result.told
-        if isinstance(result, ByRoom):
-            lines = verified(self.program, history, result.steps, ROOMY)
-            told = [f"an order explains it {WHERE_ROOMY}"]
-            return "\n".join([*told, *map(moved_line, lines), BY_ROOM, ""])
-        if isinstance(result, ByParts | ByEpipe | ByEarlyEnd | ByTransfer):
+        if isinstance(result, By):
             lines = verified(self.program, result.history, result.steps, result.limits)
             where, reason = TOLD[type(result)]
             return "\n".join([f"an order explains it {where}", *map(moved_line, lines), reason, ""])
@@ -291,13 +335,14 @@ class Orders:
 
     def totals(self) -> str:
         """The last line."""
-        explained, unexplained, given_up, roomy, parted, broken, early, larger, chosen = self.counts.values()
+        explained, unexplained, given_up, roomy, parted, broken, early, larger, shared, chosen = self.counts.values()
         text = f"histories {sum(self.counts.values())} explained {explained} unexplained {unexplained} "
         text += f"given up {given_up}" + (f" room of a pipe {roomy}" if roomy else "")
         text += f" writes in parts {parted}" if parted else ""
         text += f" EPIPE after a part {broken}" if broken else ""
         text += f" writes that end early {early}" if early else ""
         text += f" more than 65,536 bytes {larger}" if larger else ""
+        text += f" reads that share {shared}" if shared else ""
         return text + (f" other choices {chosen}" if chosen else "")
 
     def status(self) -> int:
@@ -305,6 +350,15 @@ class Orders:
         if self.counts[Unexplained]:
             return NOT_EXPLAINED
         return GIVEN_UP if self.counts[GivenUp] else EXPLAINED
+
+
+def whys_of(history: Sequence[Noted]) -> list[apart.Why]:
+    """How reasons are looked for: by each size that a page of a system may have, where more than the least of them may
+    be in a pipe."""
+    put = sum(len(noted.act.fields[1]) for noted in history if noted.act.word == "write")
+    has_pipes = any(noted.act.word in ("pipe", "mkfifo") for noted in history)
+    sizes = pages.SIZES if has_pipes and put > pages.SIZES[0] else pages.SIZES[:1]
+    return [apart.of_page(size, reason_or_limit) for size in sizes]
 
 
 def moved_line(line: Line) -> str:

@@ -41,10 +41,11 @@ import sys
 import tempfile
 import time
 from collections.abc import Callable, Iterator, Mapping, Sequence
+from functools import partial
 from pathlib import Path
 from typing import NamedTuple, Self
 
-from support import histories, ordering, outcomes, plain_model, replaying, summaries
+from support import histories, ordering, outcomes, pages, plain_model, replaying, summaries
 from support.commands import ChosenLimits, add_capacity, add_program, capacity_words, program_of
 from support.counting import Failure
 from support.drivers import compiled
@@ -75,7 +76,6 @@ STATES_MOST = 200_000
 # Histories without a reason that are told, the others being counted, and how long each of them is made shorter.
 TOLD_MOST = 5
 SHRINK_SECONDS = 5
-PAGE = 4_096
 # How many characters are told of what a driver says in the end.
 SAID_MOST = 400
 
@@ -84,12 +84,16 @@ SAID_MOST = 400
 
 
 class Race:
-    """A history of a script, the limits by which it is judged, and what is known of it where no order explains it."""
+    """A history of a script, the limits by which it is judged, how many bytes a page has, and what is known of it where
+    no order explains it."""
 
-    def __init__(self, script: str, history: History, limits: Limits = DEFAULTS) -> None:
+    def __init__(
+        self, script: str, history: History, limits: Limits = DEFAULTS, page: int = pages.OF_SYSTEM
+    ) -> None:
         self.script = script
         self.history = history
         self.limits = limits
+        self.page = page
         setup, _, parts = script.partition("race\n")
         self.calls = history[setup.count("\n") :]
         self.words = {line.split(" ")[1] for line in parts.splitlines()}
@@ -171,36 +175,17 @@ def rooms_of(race: Race) -> list[Limits]:
     return [race.limits] if isinstance(race.limits, ChosenLimits) else [race.limits, ordering.ROOMY]
 
 
-class PartsReason(Reason):
-    """The reason that a large write to a pipe goes in by parts: an order explains all with other calls between them."""
+class WayReason(NamedTuple):
+    """Why calls on pipes may have answers that no order explains: the page of the standard, and the search for an order
+    where these calls go another way, which gives None where there is none. It fits where there is one."""
+
+    name: str
+    page: str
+    way: Callable[..., object | None]
 
     def fits(self, race: Race) -> bool:
-        """Whether an order explains a history with such parts, also where pipes are larger, if that may be."""
-        return ordering.by_parts(race.history, STATES_MOST, SEARCH_SECONDS, *rooms_of(race)) is not None
-
-
-class EpipeReason(Reason):
-    """The reason that a large write ends in EPIPE though it has moved a part: an order explains all with that."""
-
-    def fits(self, race: Race) -> bool:
-        """Whether an order explains a history with such writes, also where pipes are larger, if that may be."""
-        return ordering.by_epipe(race.history, STATES_MOST, SEARCH_SECONDS, *rooms_of(race)) is not None
-
-
-class EarlyEndReason(Reason):
-    """The reason that a large write whose last reader goes has moved as much as it gave: an order explains all then."""
-
-    def fits(self, race: Race) -> bool:
-        """Whether an order explains a history with such writes, also where pipes are larger, if that may be."""
-        return ordering.by_early_end(race.history, STATES_MOST, SEARCH_SECONDS, *rooms_of(race)) is not None
-
-
-class TransferReason(Reason):
-    """The reason that calls on pipes move more bytes than fdref takes: an order explains all with calls of fewer."""
-
-    def fits(self, race: Race) -> bool:
-        """Whether an order explains a history with such calls, also where pipes are larger, if that may be."""
-        return ordering.by_transfer(race.history, STATES_MOST, SEARCH_SECONDS, *rooms_of(race)) is not None
+        """Whether an order explains a history that way, also where pipes are larger, if that may be."""
+        return self.way(race.history, STATES_MOST, SEARCH_SECONDS, *rooms_of(race)) is not None
 
 
 class LinkReason(Reason):
@@ -231,11 +216,11 @@ def is_torn(race: Race, one: Noted, other: Noted) -> str | None:
 
 def is_growing(race: Race, one: Noted, other: Noted) -> str | None:
     """A length that is told in whole pages while a write of several pages goes on: of an fstat the links are left."""
-    if other.act.word not in ("write", "pwrite") or len(other.act.fields[-1]) < PAGE:
+    if other.act.word not in ("write", "pwrite") or len(other.act.fields[-1]) < race.page:
         return None
     is_told = one.act.word == "fstat" or (one.act.word, one.act.fields[2:]) == ("lseek", ("end",))
     kind, length, *links = one.outcome.split(" ") if one.act.word == "fstat" else ("", one.outcome if is_told else "-")
-    is_of_pages = length.isdigit() and int(length) % PAGE == 0 and int(length) <= race.longest()
+    is_of_pages = length.isdigit() and int(length) % race.page == 0 and int(length) <= race.longest()
     if not is_of_pages or not race.are_apart(one, other):
         return None
     return " ".join([kind, histories.UNKNOWN, *links]) if kind else histories.UNKNOWN
@@ -257,7 +242,7 @@ def is_either(race: Race, one: Noted, other: Noted) -> str | None:
 
 
 # Each reason, the narrow ones first: only what was seen on a system.
-REASONS = [
+REASONS: list[Reason | WayReason] = [
     LinkReason("a link finds its file before it makes the name", "XSH 2.9.7; pages of link and rename", is_never),
     Reason("links are told before a name is replaced", "XSH 2.9.7; pages of fstat and rename", is_early),
     LinkReason("late links, and links told early", "XSH 2.9.7", is_early),
@@ -265,10 +250,11 @@ REASONS = [
     Reason("a read gives a part of what is written meanwhile", "XSH 2.9.7; pages of read and write", is_torn),
     Reason("both at once", "XSH 2.9.7", is_either),
     RoomReason("room of a pipe (own)", "page of write", is_never),
-    PartsReason("a write of more than 512 bytes in parts (own)", "page of write", is_never),
-    EpipeReason("EPIPE of a write that has moved a part (own)", "page of write", is_never),
-    EarlyEndReason("how much a write has moved that ends early (own)", "page of write", is_never),
-    TransferReason("more than 65,536 bytes in a call (own)", "pages of read and write", is_never),
+    WayReason("a write of more than 512 bytes in parts (own)", "page of write", ordering.by_parts),
+    WayReason("EPIPE of a write that has moved a part (own)", "page of write", ordering.by_epipe),
+    WayReason("how much a write has moved that ends early (own)", "page of write", ordering.by_early_end),
+    WayReason("more than 65,536 bytes in a call (own)", "pages of read and write", ordering.by_transfer),
+    WayReason("how reads of a pipe at once share its bytes (own)", "page of read", ordering.by_shares),
 ]
 
 
@@ -283,7 +269,7 @@ def explained(history: History, limits: Limits = DEFAULTS, shrink_seconds: float
     return ordering.explain(history, STATES_MOST, SEARCH_SECONDS, shrink_seconds, limits)
 
 
-def reason_of(race: Race) -> Reason | None:
+def reason_of(race: Race) -> Reason | WayReason | None:
     """The first reason that fits a history that no order explains."""
     return next((reason for reason in REASONS if reason.fits(race)), None)
 
@@ -357,7 +343,7 @@ class Unexplained(NamedTuple):
 
     script: str
     history: History
-    reason: Reason | None
+    reason: Reason | WayReason | None
 
 
 class Counted:
@@ -677,7 +663,17 @@ def reason_in_race(asked: Asked, script: str, history: History) -> race_table.Re
     if reason:
         return reason
     ordered, found = apart.excused(history, limits, STATES_MOST, SEARCH_SECONDS, reason_or_limit)
-    return choice(asked, found[0], ordered) if found else None
+    if found:
+        return choice(asked, found[0], ordered)
+    both = apart.beside_choice(history, limits, reason_or_limit, partial(by_choice, limits))
+    return choice(asked, both[2][0], both[1]) if both else None
+
+
+def by_choice(limits: Limits, history: History) -> ordering.By | None:
+    """An order of a history by a choice of fdref's own about bytes in pipes, if there is one."""
+    are_at_once = not apart.is_one_by_one(history)
+    has_room = isinstance(limits, ChosenLimits)
+    return ordering.by_choice(history, STATES_MOST, SEARCH_SECONDS, limits, has_room, are_at_once)
 
 
 def perhaps(asked: Asked, history: History) -> race_table.Reasoned | None:

@@ -15,7 +15,7 @@ import itertools
 from collections.abc import Callable, Iterator, Mapping, Sequence
 from typing import NamedTuple
 
-from support import plain_model
+from support import pages, plain_model
 from support.auditing import Judge, act_of
 from support.call_logs import Log, Way, call_of, is_wait, word_of
 from support.histories import UNKNOWN, Noted
@@ -26,6 +26,7 @@ from support.runs import Line
 from support.searching import Search, Step, TooLong
 from support.texts import several
 
+from compare import clipped
 from handlers import begun_at
 from partings import OF_TIME, Compared, Finding, Parting, is_by_signal, size_of
 from reach import names_in
@@ -34,8 +35,6 @@ from thread_order import ThreadSearch
 # A search is given up after so many states, or after fewer, where these have many bytes; and after so long.
 STATES_MOST, STATES_LEAST, BYTES_MOST = 100_000, 1_000, 2**30
 SECONDS = 20
-# Where no more bytes are written to pipes in all, none of Linux is full: small writes go on in a page.
-PAGE = 4_096
 # What the first thread of a process has in the place of the place.
 FIRST_THREAD = "-"
 # The calls that have to do with the descriptors of a process alone, and those that have with one file, too; and how many
@@ -135,7 +134,8 @@ class Builder:
         self.last = 2 * len(noted) + 4
         # when it was told of a child that it had ended: the first time
         self.gone = {int(line.outcome): self.after(line) - 1 for line in reversed(noted) if is_wait(line)}
-        self.is_exact = True
+        # what has no line on the system, and where it comes there
+        self.unlined: list[str] = []
         reasons = [it for it in compared.findings if it.reason and it.parting.is_same_call()]
         known = [OF_TIME.name, ROOM] if is_roomy else [OF_TIME.name]
         self.unknown = {id(it.parting.system) for it in reasons if it.reason and it.reason.name not in known}
@@ -148,7 +148,7 @@ class Builder:
         """The calls of each process, and those of its other threads by themselves."""
         system, fdref = self.compared.system, self.compared.fdref
         if self.compared.started.calls or len(self.lines) != system.total():
-            raise Open("it starts programs")
+            raise Open("it starts programs, whose calls are in no order with its own")
         found: list[list[Noted]] = []
         forked = {int(line.outcome): self.after(line) - 1 for line in self.lines if is_fork(line)}
         for way, number in sorted(system.numbers.items(), key=lambda it: it[1]):
@@ -156,8 +156,10 @@ class Builder:
             begun, asides = self.begin_of(system, number), asides_of(self.compared.records, fdref.numbers.get(way), own)
             threads = [line for line in calls if thread_of(line) != FIRST_THREAD]
             same = same_calls(calls, own) if not threads else 0
-            if any(it.before > same for it in asides):
-                raise Open("the shim asked for more in between")
+            later = [it for it in asides if it.before > same]
+            if later:
+                others = f"p{number} makes other calls with fdref after {several(same, 'call')}"
+                raise Open(f"{others}, and one of them has no line on the system (p{number} {later[0].act})")
             first = [line for line in calls if thread_of(line) == FIRST_THREAD]
             first_end = self.after(calls[0]) - 1 if calls else self.last
             came = begin(number, begun, min(forked[number], first_end) if number in forked else None)
@@ -189,7 +191,7 @@ class Builder:
         earlier = reversed(self.compared.noted_lines[: self.places[id(line)]])
         before = (it for it in earlier if same_thread(it, line) and not is_wait(it))
         if next(before, line).place != line.place:
-            raise Open("a call was made within another one, as by a handler of a signal")
+            raise Open(f"a call was made within another one, as by a handler of a signal: {shown(line)}")
         return start
 
     def after(self, line: Line) -> int:
@@ -203,7 +205,7 @@ class Builder:
         that a wait told it."""
         found: list[Noted] = []
         for at, line in enumerate(system):
-            found += self.asked_aside(number, (start, self.after(line) - 1), at, asides, is_first)
+            found += self.asked_aside(number, (start, self.after(line) - 1), at, asides, is_first, f"before {line.act}")
             found += self.calls_of(start, [line])
             start = start if is_piece(system[at : at + 2]) else self.after(line)
         gone = self.gone.get(number)
@@ -223,7 +225,13 @@ class Builder:
         return found
 
     def asked_aside(
-        self, number: int, times: tuple[int, int], at: int, asides: list[Aside], is_first: bool
+        self,
+        number: int,
+        times: tuple[int, int],
+        at: int,
+        asides: list[Aside],
+        is_first: bool,
+        where: str = "after its calls",
     ) -> list[Noted]:
         """What the shim asked aside before a call, between two times. What it asked at first is known, and later no
         answer is."""
@@ -232,7 +240,7 @@ class Builder:
             if one.before == at and is_first and at == 0:
                 found.append(Noted(0, 0, read_act(f"p{number} {one.act}"), one.outcome))
             elif one.before == at:
-                self.is_exact = False
+                self.unlined.append(f"p{number} {one.act}, {where}")
                 found.append(Noted(*times, read_act(f"p{number} {one.act}"), UNKNOWN))
         return found
 
@@ -405,7 +413,8 @@ def by_threads(builder: Builder, limits: Limits, seconds: float) -> tuple[list[S
     threads = ThreadSearch(lanes, limits, most_states(lanes, seconds), seconds)
     found = threads.order()
     if found is None and threads.has_waited:
-        raise Open("a thread may have waited in a call, beside which others make theirs")
+        waits = plain_model.act_text(threads.has_waited.act)
+        raise Open(f"a thread may have waited in a call, beside which others make theirs: {clipped(waits)}")
     if found is None:
         return None
     calls = {id(noted): noted for _, noted in found}
@@ -419,22 +428,32 @@ def is_open_to(finding: Finding) -> bool:
 
 
 def ordered_of(
-    compared: Compared, program: list[str], doubt: str, of_end: str, seconds: float = SECONDS
+    compared: Compared, program: list[str], doubt: str, of_end: str, seconds: float = SECONDS, more: str = ""
 ) -> Ordered | None:
     """Whether some order explains the answers of the system, as far as so long a search tells: None where there is
     nothing to search for. A doubt is why there may be none though the system is right: something was done that has no
-    line; one of an end is why a pipe may have had fewer bytes than were written."""
+    line, of which more may be told; one of an end is why a pipe may have had fewer bytes than were written."""
     has_threads = Builder(compared).has_threads()
     if not compared.findings or (len(compared.system.calls) < 2 and not has_threads):
         return None
     try:
-        return found_for(compared, program, doubt, of_end, seconds)
+        return found_for(compared, program, Doubts(doubt, of_end, more), seconds)
     except Open as why:
         return Ordered(None, str(why))
 
 
-def found_for(compared: Compared, program: list[str], doubt: str, of_end: str, seconds: float) -> Ordered:
+class Doubts(NamedTuple):
+    """Why there may be no order though the system is right, and why a pipe may have had fewer bytes; of which more may
+    be told."""
+
+    doubt: str
+    of_end: str
+    more: str
+
+
+def found_for(compared: Compared, program: list[str], given: Doubts, seconds: float) -> Ordered:
     """The same, where it can be asked."""
+    doubt, of_end, more = given
     builder, roomy = Builder(compared), Builder(compared, True)
     is_sure = not (of_end or builder.has_threads())
     if is_sure and has_lost(compared.system, is_cut_off if doubt else is_lossy):
@@ -448,17 +467,30 @@ def found_for(compared: Compared, program: list[str], doubt: str, of_end: str, s
     if size > compared.limits.capacity and has_less and search(roomy, ROOMY, program, seconds):
         room = f"where a pipe holds {ROOMY.capacity:,} bytes: {ROOM} (own; page of write)"
         return Ordered(True, f"{OTHERS if roomy.unknown else AN_ORDER}, {room}", not roomy.unknown, True)
-    doubts = {
-        doubt: bool(doubt),
-        "another difference with a reason": any(is_open_to(it) for it in compared.findings),
-        "what the shim asked in between": not builder.is_exact,
-        "a signal, or O_NONBLOCK that is set while a call waits,": any(map(compared.is_cut, compared.system_lines)),
-        ROOM: size > PAGE,
-    }
-    why = next((why for why, holds in doubts.items() if holds), "")
-    if why:
-        raise Open(f"none was found, but {why} may be why")
+    # else no pipe of Linux is full: small writes go on in a page
+    has_filled = size > pages.OF_SYSTEM
+    doubts = {doubt: [more] if doubt else [], **doubts_of(compared, builder), ROOM: [""] if has_filled else []}
+    for why, calls in doubts.items():
+        if calls:
+            raise Open(f"none was found, but {why} may be why" + (f": {calls[0]}" if calls[0] else ""))
     return none_in(builder)
+
+
+def doubts_of(compared: Compared, builder: Builder) -> dict[str, list[str]]:
+    """Why there may be no order though the system is right, each with the calls of which it is so."""
+    reasons = [(it.parting.system, it.reason) for it in compared.findings if is_open_to(it)]
+    return {
+        "another difference with a reason": [f"{shown(line)} ({it.name})" for line, it in reasons if line and it],
+        "what has no line, as a call with a path or a stream, truncate or fsync,": builder.unlined,
+        "a signal, or O_NONBLOCK that is set while a call waits,": [
+            shown(line) for line in compared.system_lines if compared.is_cut(line)
+        ],
+    }
+
+
+def shown(line: Line) -> str:
+    """A call of the system with its answer, for a reader."""
+    return clipped(f"{line.act} = {line.outcome}")
 
 
 def none_in(builder: Builder) -> Ordered:
@@ -541,7 +573,7 @@ def is_cut_for_nothing(compared: Compared, parting: Parting) -> bool:
         return False
     if count <= PIPE_BUF and not is_piece(calls[max(place - 1, 0) : place + 1]):
         return True
-    is_stopped = moved % PAGE == 0 or (count - moved) % PAGE == 0 or count == TRANSFER_MAX
+    is_stopped = 0 in (moved % pages.OF_SYSTEM, (count - moved) % pages.OF_SYSTEM) or count == TRANSFER_MAX
     is_waiting = not at.nonblock and not compared.turns.turns and not compared.is_cut(line)
     return is_waiting and not is_stopped and is_read_later(compared, line)
 

@@ -8,10 +8,12 @@ from functools import partial
 from pathlib import Path
 
 from stand_ins import wrong_driver
+from support import ordering
 from support.counting import Case, Failure, require, same
 from support.places import STAND_INS, TOOLS
 from support.running import CannotRun, Ran, run
 
+import compare_lines
 import compare_runs
 
 SECONDS = 120
@@ -403,6 +405,52 @@ def pages_are_a_reason(program: str, folder: str, way: str, script: str, words: 
     require(done.status == 0 and b"room of a pipe that is counted in pages" in done.stdout, done.said())
 
 
+# Four writes that take a large page each, and a fifth.
+LARGE_PAGES = "join\np0 pipe\np0 setfl 1 -,nonblock\n" + "p0 write 1 61*9000\n" * 5
+
+
+def large_pages_are_measured(program: str, folder: str) -> None:
+    """How large the pages of a system are is measured, and a write that finds none free is told with that reason."""
+    done = compared(program, folder, "has-large-pages", LARGE_PAGES, PAGED)
+    wanted = b" p0 write 1 61*9000 = error EAGAIN\nfdref:  7 p0 write 1 61*9000 = 9000\n"
+    require(done.status == 0 and wanted in done.stdout, done.said())
+    require(b"       1 room of a pipe that is counted in pages (own; page of write)\n" in done.stdout, done.said())
+    driver = [sys.executable, str(STAND_INS / "wrong_driver.py"), "has-large-pages"]
+    same(16_384, compare_lines.Asked([program], driver, ordering.ROOMY).page)
+
+
+# ---- reads that wait at one pipe
+
+READERS = f"{FORKED}p0 fork\np2 attach\np0 read 0 {{0}}\np1 read 0 {{0}}\np2 write 1 x61626364\n"
+SHARES = "how reads of a pipe at once share its bytes"
+# What two reads of two bytes give that come back after one act, and the reason.
+SHARED_READS = [
+    ("x6162", "x6364", None),
+    ("x6364", "x6162", None),
+    ("x6163", "x6264", SHARES),
+    ("x6264", "x6163", SHARES),
+    ("x6163", "x6265", "none"),
+    ("x6162", "x6162", "none"),
+    ("x6361", "x6264", "none"),
+]
+
+
+def shared_reads_are_told(program: str, folder: str, one: str, other: str, reason: str | None) -> None:
+    """Reads that waited together may have taken the bytes by turns, but each byte once and in order."""
+    end = f" | sed 's/ p0 resume = x6162$/ p0 resume = {one}/; s/ p1 resume = x6364$/ p1 resume = {other}/'"
+    done = compared(program, folder, "none", READERS.format(2), end=end)
+    told = [line for line in done.stdout.decode().splitlines() if line.startswith("reason: ")]
+    wanted = {None: [], "none": ["reason: none"], SHARES: [f"reason: {SHARES} (own; page of read)"]}[reason]
+    same((int(reason == "none"), wanted), (done.status, told))
+
+
+def halves_are_told(program: str, folder: str) -> None:
+    """A read may leave some bytes to another one that waits; what comes after that is not compared."""
+    done = compared(program, folder, "shares-reads", READERS.format(9))
+    require(done.status == 0 and f"       1 {SHARES} (own; page of read)\n".encode() in done.stdout, done.said())
+    require(b" time the rest was not compared, after: p0 resume\n" in done.stdout, done.said())
+
+
 # A large write into an empty pipe of two pages, what is read then, and what a wrong system gives for that.
 TWO_PAGES = f"{FORKED}p1 write 1 61*20000\np0 read 0 30000\n"
 READS_OTHER = "sed 's/^\\([0-9]* p0 read 0 30000\\) = 61\\*8192$/\\1 = 62*8192/'"
@@ -614,6 +662,10 @@ def cases(program: str, folder: str) -> Iterator[Case]:
         yield f"{less[0]} {less[1]!r}", partial(less_is_seen, program, folder, *less)
     yield "has-smaller-pipes-than-fifos", partial(rooms_are_told, program, folder)
     yield "has-two-pages", partial(filled_pages_fit, program, folder)
+    yield "has-large-pages", partial(large_pages_are_measured, program, folder)
+    for one, other, reason in SHARED_READS:
+        yield f"reads of {one} and {other}", partial(shared_reads_are_told, program, folder, one, other, reason)
+    yield "shares-reads", partial(halves_are_told, program, folder)
     for paged in NOT_LESS:
         yield f"{paged[0]} {paged[1]!r}, by pages", partial(pages_are_a_reason, program, folder, *paged)
     for beside in BESIDE:

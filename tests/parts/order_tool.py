@@ -403,6 +403,32 @@ OVERLAPPING += [
     (BESIDE_APPEND, "20 22 p0 pread 2 0 9 = x6162\n21 30 p1 read 0 1 = error EBADF", f"perhaps: {APPEND}"),
     (BESIDE_APPEND, "20 22 p0 pread 2 0 9 = x6162\n21 30 p1 getfl 0 = 1", f"reason: {APPEND}"),
 ]
+# A pwrite under append that overlaps an append, in an order that is not that of their ends, and what shows it.
+BOTH_APPEND = f"{JOINED}2 3 p0 open a rw,creat,append = 0\n4 5 p0 fork = 1\n6 7 p1 attach = ok\n"
+BOTH_APPEND += "10 30 p0 write 0 x62 = 1\n12 20 p1 pwrite 0 0 x6161 = 2\n"
+OFFSET, LENGTH_3 = "40 41 p0 lseek 0 0 cur = 1\n", "42 43 p0 lseek 0 0 end = 3\n"
+BY_APPEND = [
+    f"{BOTH_APPEND}{OFFSET}{LENGTH_3}",
+    f"{BOTH_APPEND}38 39 p0 fstat 0 = regular 3 1\n{OFFSET}",
+    f"{BOTH_APPEND}{OFFSET}42 43 p0 pread 0 0 9 = x626161\n",
+    f"{BOTH_APPEND}31 32 p0 write 0 x63 = 1\n40 41 p0 pread 0 0 9 = x62616163\n",
+    # what is wrong later has nothing to do with it
+    f"{BOTH_APPEND}{OFFSET}{LENGTH_3}50 51 p0 close 7 = error EINVAL\n",
+    # the flag is set meanwhile
+    f"{BOTH_APPEND.replace('creat,append', 'creat')}13 25 p0 setfl 0 -,append = ok\n{OFFSET}{LENGTH_3}".replace(
+        "10 30 p0 write", "10 11 p0 write"
+    ),
+]
+# The nearest that it does not explain: another length, other bytes, an offset of no order, and a description that does
+# not append.
+NOT_BY_APPEND = [
+    f"{BOTH_APPEND}{OFFSET}{LENGTH_3.replace('= 3', '= 4')}",
+    f"{BOTH_APPEND}{OFFSET}42 43 p0 pread 0 0 9 = x616261\n",
+    f"{BOTH_APPEND}{OFFSET.replace('= 1', '= 2')}{LENGTH_3}",
+    f"{BOTH_APPEND}{OFFSET}{LENGTH_3}".replace("4 5 p0 fork", "4 4 p0 open a rw = 1\n5 5 p0 fork").replace(
+        "pwrite 0 0", "pwrite 1 0"
+    ),
+]
 # Calls that overlap, of which each that is answered otherwise has a reason that is fdref's own choice: what fdref answers.
 OVERLAPPING_CHOICES = [
     (FORKED, "10 20 p0 read 0 70000 = x\n15 18 p1 fstat 0 = regular 0 1", "error EINVAL", COUNT),
@@ -450,6 +476,21 @@ def ends_with(program: str, text: str, status: int, end: str, *options: str) -> 
     require(ran.stdout.decode().endswith(f"\n{end}\n"), ran.said())
 
 
+def blames_pwrite(program: str, text: str) -> None:
+    """The tool blames the pwrite under append, and not the call that shows what it did."""
+    ran = told(program, text)
+    lines = ran.stdout.decode().splitlines()
+    blamed = lines[lines.index("which this call makes impossible, with those that overlap it:") + 1]
+    require(blamed.startswith("  12 ") and " p1 pwrite 0 0 x6161 = " in blamed, ran.said())
+    same((1, f"reason: {APPEND}"), (ran.status, lines[-1]))
+
+
+def blames_another(program: str, text: str) -> None:
+    """The tool finds no order, and gives no pwrite as the reason."""
+    ran = told(program, text)
+    require(ran.status == 1 and b"O_APPEND" not in ran.stdout, ran.said())
+
+
 def has_told(program: str, text: str, lines: str) -> None:
     """The tool tells this of a history, and ends with status 0."""
     ran = told(program, text)
@@ -490,6 +531,10 @@ def reason_cases(program: str) -> Iterator[Case]:
     yield "after a call of no bytes", partial(is_bare, program, further, "error EBADF")
     for before, calls, end in OVERLAPPING:
         yield f"at once: {calls}", partial(ends_with, program, f"{before}{calls}\n", 1, end)
+    for text in BY_APPEND:
+        yield f"to blame: {text}", partial(blames_pwrite, program, text)
+    for text in NOT_BY_APPEND:
+        yield f"no pwrite to blame: {text}", partial(blames_another, program, text)
     for before, calls, answer, reason in OVERLAPPING_CHOICES:
         end = f"fdref answers {answer}, in an order that explains the others\nreason: {reason}"
         yield f"choices at once: {calls}", partial(ends_with, program, f"{before}{calls}\n", 0, end)
@@ -627,6 +672,70 @@ NOT_IN_PARTS = [
 ]
 
 
+# Large writes of which a part is read, and that wait at the end, or whose answers are not known; and reads beside parts
+# whose answers are not known. The nearest that are wrong whatever these are: a byte is lost, doubled, or nobody's, more
+# is read than was written, or than the pipe holds, the rest has room, the write is small, is not to wait, or goes to a
+# file.
+MIXED = bytes(at * at % 251 for at in range(2000)).hex()
+PARKED = f"{TWO}20 - p0 write 1 x{MIXED} = parked ?\n30 40 p1 read 0 600 = x{MIXED[:1000]}\n"
+PARKED_TWICE = f"{PARKED}42 50 p1 read 0 200 = x{MIXED[1000:1200]}\n"
+PARKED_SAME = f"{TWO}20 - p0 write 1 61*3000 = parked ?\n30 40 p1 read 0 1500 = 61*500\n"
+TWO_PARKED = f"{THREE}20 - p0 write 1 61*3000 = parked ?\n21 - p1 write 1 62*3000 = parked ?\n"
+TWO_PARKED += f"30 40 p2 read 0 1000 = x{'61' * 500}{'62' * 500}\n"
+ONE_PARKED = f"{THREE}20 - p0 write 1 61*3000 = parked ?\n21 50 p1 write 1 x626262 = 3\n"
+ONE_PARKED += f"30 60 p2 read 0 1000 = x{'61' * 500}626262{'61' * 497}\n"
+SMALL_BETWEEN = f"{THREE}20 40 p0 write 1 61*600 = 600\n20 40 p1 write 1 x62 = 1\n"
+SMALL_BETWEEN += "50 51 p2 read 0 300 = 61*300\n52 53 p2 read 0 1 = x62\n"
+WRITE_UNKNOWN = SMALL_BETWEEN.replace("= 600", "= ?")
+READ_UNKNOWN = SMALL_BETWEEN.replace("= 61*300", "= ?")
+PARTLY_KNOWN = [
+    PARKED,
+    PARKED_TWICE,
+    PARKED.replace("parked ?", "?"),
+    PARKED_SAME,
+    TWO_PARKED,
+    ONE_PARKED,
+    WRITE_UNKNOWN,
+    f"{WRITE_UNKNOWN}54 55 p2 read 0 300 = 61*300\n",
+    WRITE_UNKNOWN.replace("20 40 p0 write", "20 - p0 write"),
+    READ_UNKNOWN,
+    READ_UNKNOWN.replace("= 600", "= ?"),
+    f"{READ_UNKNOWN}54 55 p2 read 0 301 = 61*300\n",
+    f"{SMALL_BETWEEN.replace('= x62', '= ?')}54 55 p2 read 0 300 = 61*300\n",
+    f"{SMALL_BETWEEN.replace('= x62', '= ?').replace('read 0 1', 'read 0 2')}54 55 p2 read 0 300 = 61*299\n",
+]
+MORE_THAN_HELD = READ_UNKNOWN.replace("61*600 = 600", "61*2000 = 2000").replace("read 0 300", "read 0 1500")
+NOT_PARTLY_KNOWN = [
+    PARKED.replace(f"= x{MIXED[:1000]}", f"= x{MIXED[2:1002]}"),
+    PARKED.replace(f"= x{MIXED[:1000]}", f"= x{MIXED[:998]}ff"),
+    PARKED.replace("x" + MIXED, "x" + MIXED[:3000]),
+    PARKED.replace("20 - p0", "12 13 p0 setfl 1 -,nonblock = ok\n20 - p0"),
+    PARKED_TWICE.replace(f"x{MIXED[1000:1200]}", f"x{MIXED[1002:1202]}"),
+    PARKED_TWICE.replace(f"x{MIXED[1000:1200]}", f"x{MIXED[998:1198]}"),
+    PARKED_TWICE.replace(f"x{MIXED[1000:1200]}", f"x{MIXED[:200]}"),
+    PARKED_SAME.replace("= 61*500", "= 61*1025"),
+    PARKED_SAME.replace("61*3000", "61*1024"),
+    PARKED_SAME.replace("61*3000", "61*499"),
+    PARKED_SAME.replace("61*3000", "61*512"),
+    PARKED_SAME.replace("61*3000 = parked ?", "61*499 = ?"),
+    f"{FILED}4 5 p0 fork = 1\n6 7 p1 attach = ok\n"
+    "20 - p0 write 0 61*3000 = parked ?\n30 40 p1 pread 0 0 999 = 61*500\n",
+    TWO_PARKED.replace("62*3000", "62*499"),
+    ONE_PARKED.replace("626262 = 3", "62626262 = 4"),
+    ONE_PARKED.replace(f"626262{'61' * 497}", f"62{'61' * 497}6262"),
+    WRITE_UNKNOWN.replace("61*600", "61*512"),
+    WRITE_UNKNOWN.replace("= x62", "= x63"),
+    WRITE_UNKNOWN.replace("61*300", f"x{'61' * 299}63"),
+    f"{WRITE_UNKNOWN}54 55 p2 read 0 301 = 61*301\n",
+    f"{WRITE_UNKNOWN}54 55 p2 read 0 300 = x62\n",
+    READ_UNKNOWN.replace("61*600 = 600", "61*512 = 512"),
+    READ_UNKNOWN.replace("= x62", "= x63"),
+    f"{READ_UNKNOWN}54 55 p2 read 0 301 = 61*301\n",
+    f"{READ_UNKNOWN}54 55 p2 read 0 300 = 61*299\n56 - p2 read 0 1 = parked ?\n",
+    f"{READ_UNKNOWN}54 55 p2 read 0 300 = x62\n",
+]
+
+
 # A write that has moved a part when the last reader goes, and is EPIPE; the nearest that are wrong: a reader is left,
 # what it moved is lost, it goes in at once or not at all, it is not to wait, and another error.
 LONE = f"{TWO}8 9 p0 close 0 = ok\n10 11 p1 close 1 = ok\n"
@@ -700,6 +809,93 @@ NOT_PAST_MOST = [
 ]
 
 
+# Reads of one pipe at once that take its bytes by turns, or leave some to another; with what is told of them. The
+# nearest that are wrong: they do not overlap, a byte is lost, doubled, from nowhere or out of its order, one reads
+# alone or beside a read that gives nothing, and they are at two pipes.
+FOUR = f"{THREE}12 13 p0 write 1 x61626364 = 4\n"
+AT_TURNS = f"{FOUR}20 40 p1 read 0 2 = x6163\n20 40 p2 read 0 2 = x6264\n"
+BY_SHARES = "reason: how reads of a pipe at once share its bytes (own; page of read)"
+SHARED_LINES = """\
+an order explains it where reads of a pipe at once take its bytes by turns, each byte once and in order
+  p0 join = 0
+  p0 pipe = 0 1
+  p0 fork = 1
+  p1 attach = ok
+  p0 fork = 2
+  p2 attach = ok
+  p0 write 1 x61626364 = 4
+  p1 read 0 1 = x61
+  p2 read 0 1 = x62
+  p1 read 0 1 = x63
+  p2 read 0 1 = x64
+"""
+FIFOS = f"{JOINED}2 2 p0 mkfifo f = ok\n3 3 p0 open f r,nonblock = 0\n3 3 p0 open f w = 1\n"
+TWO_FIFOS = f"{FIFOS}3 3 p0 unlink f = ok\n3 3 p0 mkfifo f = ok\n3 3 p0 open f r,nonblock = 2\n3 3 p0 open f w = 3\n"
+HALF_SHARED = "20 40 p1 read 0 9 = x61\n20 40 p2 read 0 9 = x62\n50 51 p0 read 0 9 = x6364\n"
+SHARES = [
+    f"{FOUR}20 40 p1 read 0 9 = x6163\n20 40 p2 read 0 9 = x6264\n",
+    f"{FOUR}20 40 p1 read 0 9 = x6164\n30 50 p2 read 0 9 = x6263\n",
+    f"{FOUR}{HALF_SHARED}",
+    f"{FIFOS}{AT_TURNS[len(PIPED) :]}",
+    f"{THREE}12 60 p0 write 1 x{'61' * 300}{'62' * 300} = 600\n20 40 p1 read 0 400 = x{'61' * 150}{'62' * 250}\n"
+    f"20 40 p2 read 0 400 = x{'61' * 150}{'62' * 50}\n",
+    # of a pipe that is larger, and with a writer beside them
+    f"{THREE}12 13 p0 write 1 61*1500 = 1500\n14 15 p0 write 1 62*2 = 2\n20 40 p1 read 0 1001 = x{'61' * 1000}62\n"
+    f"20 40 p2 read 0 501 = x{'61' * 500}62\n",
+    f"{FOUR}20 40 p0 write 1 x6566 = 2\n20 40 p1 read 0 3 = x616365\n20 40 p2 read 0 3 = x626466\n",
+]
+NOT_SHARES = [
+    AT_TURNS.replace("20 40 p2", "41 42 p2"),
+    f"{FOUR}20 40 p1 read 0 2 = x61\n20 40 p2 read 0 2 = x6264\n",
+    f"{AT_TURNS.replace('x6163', 'x61')}50 51 p0 setfl 0 -,nonblock = ok\n52 53 p0 read 0 1 = error EAGAIN\n",
+    AT_TURNS.replace("x6264", "x6163"),
+    AT_TURNS.replace("x6264", "x6265"),
+    AT_TURNS.replace("x6264", "x6462"),
+    f"{AT_TURNS}50 51 p0 read 0 9 = x64\n",
+    f"{FOUR}20 40 p1 read 0 9 = x61\n50 51 p0 read 0 9 = x626364\n",
+    f"{FOUR}20 40 p1 read 0 9 = x61\n20 - p2 read 0 9 = parked ?\n50 51 p0 read 0 9 = x626364\n",
+    f"{FOUR}20 40 p1 read 0 9 = x61\n20 40 p2 read 0 9 = x\n50 51 p0 read 0 9 = x626364\n",
+    f"{FOUR}14 15 p0 pipe = 2 3\n16 17 p0 fork = 3\n18 19 p3 attach = ok\n19 19 p0 write 3 x65 = 1\n"
+    "20 40 p1 read 0 9 = x61\n20 40 p3 read 2 9 = x65\n50 51 p0 read 0 9 = x626364\n",
+    f"{TWO_FIFOS}{THREE[len(PIPED) :]}12 13 p0 write 1 x6162 = 2\n14 15 p0 write 3 x6364 = 2\n"
+    "20 40 p1 read 0 9 = x61\n20 40 p2 read 2 9 = x6364\n50 51 p0 read 0 9 = x62\n",
+]
+
+
+# Reads that share beside one whose answer is not known. The nearest that are wrong whatever that is: it is not at once
+# with them, a byte is nobody's, doubled or lost, or comes out of its order.
+HIDDEN = f"{FOUR}20 40 p1 read 0 2 = x6163\n20 40 p2 read 0 1 = ?\n"
+HIDDEN_SHARES = [
+    HIDDEN,
+    HIDDEN.replace("p2 read 0 1", "p2 read 0 9"),
+    f"{HIDDEN}50 51 p0 read 0 9 = x64\n",
+    HIDDEN.replace("12 13 p0 write 1 x61626364 = 4", "12 40 p0 write 1 x61626364 = ?"),
+]
+NOT_HIDDEN_SHARES = [
+    HIDDEN.replace("20 40 p2", "41 42 p2"),
+    HIDDEN.replace("x6163", "x6165"),
+    HIDDEN.replace("x6163", "x6161"),
+    HIDDEN.replace("x6163", "x6361"),
+    HIDDEN.replace("x6163", "x6164"),
+    f"{HIDDEN}50 51 p0 read 0 9 = x6264\n",
+    f"{HIDDEN}50 51 p0 read 0 9 = x6465\n",
+    f"{HIDDEN}50 - p0 read 0 9 = parked ?\n",
+]
+
+
+# The size of a pipe beside writes in parts, and beside reads that share; the nearest that are wrong in another answer.
+BESIDE = [
+    (f"{TORN}45 46 p0 fstat 0 = pipe 0 1\n{TORN_READS}54 55 p2 read 0 600 = 61*113\n", BY_PARTS),
+    (f"{FOUR}14 15 p0 fstat 1 = pipe 0 1\n{AT_TURNS[len(FOUR) :]}", BY_SHARES),
+]
+NOT_BESIDE = [
+    BESIDE[0][0].replace("54 55 p2 read 0 600 = 61*113", "54 55 p2 read 0 600 = 61*112\n56 - p2 read 0 1 = parked ?"),
+    BESIDE[0][0].replace("fstat 0 = pipe 0 1", "getfl 0 = 2"),
+    BESIDE[1][0].replace("x6264", "x6265"),
+    BESIDE[1][0].replace("14 15 p0 fstat 1 = pipe 0 1", "14 15 p0 fstat 1 = fifo 0 1"),
+]
+
+
 # Small writes that are torn: for want of room in fdref's pipes, too, which is not what is wrong.
 TORN_SMALL = f"{THREE}12 13 p0 write 1 63*100 = 100\n20 40 p0 write 1 61*512 = 512\n20 40 p1 write 1 62*512 = 512\n"
 TORN_SMALL += f"50 51 p2 read 0 400 = x{'63' * 100}{'61' * 300}\n52 53 p2 read 0 512 = 62*512\n"
@@ -712,6 +908,13 @@ def part_cases(program: str) -> Iterator[Case]:
         yield f"in parts: {text}", partial(ends_with, program, text, 0, end)
     for text in NOT_IN_PARTS:
         yield f"in no parts: {text}", partial(fails, program, text, 1, "no order explains it")
+    for text in PARTLY_KNOWN:
+        yield f"in parts, partly known: {text}", partial(ends_with, program, text, 0, BY_PARTS)
+    for text in NOT_PARTLY_KNOWN:
+        yield f"in no parts, partly known: {text}", partial(fails, program, text, 1, "no order explains it")
+    yield "no more than a larger pipe holds, partly known", partial(ends_with, program, MORE_THAN_HELD, 0, BY_PARTS)
+    held = "no order explains it", "--pipe-capacity", "1024"
+    yield "more than the pipe holds, partly known", partial(fails, program, MORE_THAN_HELD, 1, *held)
     yield "EPIPE of a part", partial(ends_with, program, BROKEN, 0, f"  p0 resume = 1024\n{BY_EPIPE}")
     for text in NOT_BROKEN:
         yield f"no EPIPE of a part: {text}", partial(fails, program, text, 1, "no order explains it")
@@ -729,6 +932,22 @@ def part_cases(program: str) -> Iterator[Case]:
         yield f"not more than fdref takes: {text}", partial(fails, program, text, 1, "no order explains it")
     counted = "histories 2 explained 1 unexplained 0 given up 0 more than 65,536 bytes 1"
     yield "more than fdref takes, counted", partial(ends_with, program, f"{OVER}\n{GOOD}", 0, counted)
+    lines = f"{SHARED_LINES}{BY_SHARES}\n"
+    yield "reads that share", partial(prints, program, AT_TURNS, 0, lines)
+    for text in SHARES:
+        yield f"reads that share: {text}", partial(ends_with, program, text, 0, BY_SHARES)
+    for text in NOT_SHARES:
+        yield f"reads that do not share: {text}", partial(fails, program, text, 1, "no order explains it")
+    for text in HIDDEN_SHARES:
+        yield f"reads that share, partly known: {text}", partial(ends_with, program, text, 0, BY_SHARES)
+    for text in NOT_HIDDEN_SHARES:
+        yield f"reads that do not share, partly known: {text}", partial(fails, program, text, 1, "no order explains it")
+    for text, reason in BESIDE:
+        yield f"two reasons: {text}", partial(ends_with, program, text, 0, f"reason: {STAT}\n{reason}")
+    for text in NOT_BESIDE:
+        yield f"not two reasons: {text}", partial(fails, program, text, 1, "no order explains it")
+    counted = "histories 2 explained 1 unexplained 0 given up 0 reads that share 1"
+    yield "reads that share, counted", partial(ends_with, program, f"{AT_TURNS}\n{GOOD}", 0, counted)
     yield "torn, and out of room", partial(ends_with, program, TORN_SMALL, 1, NOT_BY_ROOM)
     counted = "histories 2 explained 1 unexplained 0 given up 0 writes in parts 1"
     yield "in parts, counted", partial(ends_with, program, f"{IN_PARTS[1][0]}\n{GOOD}", 0, counted)
@@ -742,6 +961,42 @@ def finds_a_wrong_program(program: str) -> None:
             Path(path).write_text(f'#!/bin/sh\n"{program}" "$@" | sed "{wrong}"\n', encoding="utf-8")
             os.chmod(path, stat.S_IRWXU)
             fails(path, text, 3, "the program differs from the plain model")
+
+
+# Pipes of 65,536 bytes with pages of 16,384. Four writes of 9,000 bytes take one each; 7,768 bytes of the last page are
+# free after 49,152 bytes, 5,000 and a part of 20,000. The nearest that no size of a page explains.
+WET = f"{PIPED}4 5 p0 setfl 1 -,nonblock = ok\n"
+PAGES_OF_16K = [
+    (f"{WET}" + "8 8 p0 write 1 61*9000 = 9000\n" * 4, "20 21 p0 write 1 62*9000 = error EAGAIN", "9000", ""),
+    (
+        f"{WET}8 8 p0 write 1 61*49152 = 49152\n9 9 p0 write 1 61*5000 = 5000\n",
+        "20 21 p0 write 1 62*20000 = 3616",
+        "11384",
+        "30 31 p0 write 1 63*7000 = 7000\n",
+    ),
+]
+NO_PAGES = [
+    (f"{WET}" + "8 8 p0 write 1 61*9000 = 9000\n" * 3, "20 21 p0 write 1 62*9000 = error EAGAIN", "9000", ""),
+    (f"{WET}8 8 p0 write 1 61*100 = 100\n", "20 21 p0 write 1 62*40000 = error EAGAIN", "40000", ""),
+    (
+        f"{WET}8 8 p0 write 1 61*16384 = 16384\n9 9 p0 write 1 61*5000 = 5000\n",
+        "20 21 p0 write 1 62*20000 = 3616",
+        "20000",
+        "30 31 p0 write 1 63*20000 = 20000\n",
+    ),
+]
+
+
+def page_cases(program: str) -> Iterator[Case]:
+    """What is told where the pages of a system may be larger."""
+    known = ("--pipe-capacity", "65536")
+    paged = "room of a pipe that is counted in pages (own; page of write)"
+    for before, call, answer, after in PAGES_OF_16K:
+        text = f"{before}{call}\n{after}"
+        yield f"larger pages: {call}", partial(prints, program, text, 0, chosen(call, answer, paged), *known)
+    for before, call, answer, after in NO_PAGES:
+        text = f"{before}{call}\n{after}"
+        yield f"no pages: {call}", partial(fails, program, text, 1, f"{call}\nfdref answers {answer}\npage of", *known)
 
 
 def capacity_cases(program: str) -> Iterator[Case]:
@@ -762,6 +1017,7 @@ def capacity_cases(program: str) -> Iterator[Case]:
     full += "40 41 p0 write 1 62*5000 = error EAGAIN\n"
     paged = "fdref answers 5000\nreason: room of a pipe that is counted in pages (own; page of write)"
     yield "no page that is free", partial(ends_with, program, full, 0, paged, "--pipe-capacity", "65536")
+    yield from page_cases(program)
     page = f"{PIPED}4 5 p0 fork = 1\n6 7 p1 attach = ok\n8 9 p0 setfl 1 -,nonblock = ok\n"
     page += "10 11 p0 write 1 61*9000 = 4096\n12 20 p0 write 1 x61 = error EAGAIN\n"
     page += "15 18 p1 write 1 x61 = error EAGAIN\n"

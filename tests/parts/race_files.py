@@ -118,6 +118,11 @@ LONE, ALONE = "p0 close 0\np1 close 1\n", f"{SETUP}8 9 p0 close 0 = ok\n10 11 p1
 BROKEN = ["20 90 p0 write 1 61*3000 = error EPIPE", "30 40 p1 read 0 600 = 61*600", "50 60 p1 close 0 = ok"]
 CUT_OFF = ["15 16 p0 write 1 62*100 = 100", "20 90 p0 write 1 61*65536 = 61440", "50 60 p1 close 0 = ok"]
 LARGE = ["20 90 p0 write 1 61*65700 = 65536", "30 40 p1 read 0 10 = 61*10", "50 60 p1 close 0 = ok"]
+BOTH_OPEN = "join\np0 open a rw,creat,append\np0 fork\np1 attach\n"
+BOTH_APPEND = "0 1 p0 join = 0\n2 3 p0 open a rw,creat,append = 0\n4 5 p0 fork = 1\n6 7 p1 attach = ok\n"
+APPENDS = ["10 30 p0 write 0 x62 = 1", "12 20 p1 pwrite 0 0 x6161 = 2"]
+FOUR = "15 16 p0 write 1 x61626364 = 4"
+SHARES = "how reads of a pipe at once share its bytes (own) (page of read)"
 CHOICES = [
     (JOINS, JOINED, ["20 30 p0 open a r,trunc = 1", "21 31 p1 open b rw,creat = 0"], 0, FLAGS),
     (ENDS, SETUP, ["20 30 p0 fstat 0 = pipe 0 1", "21 31 p1 getfl 0 = 1"], 0, STAT),
@@ -142,10 +147,17 @@ CHOICES = [
     (f"{ENDS}{LONE}", ALONE, [CUT_OFF[0], CUT_OFF[1].replace("= 61440", "= 65500"), CUT_OFF[2]], 1, BARE),
     (f"{ENDS}{LONE}", ALONE, LARGE, 0, "more than 65,536 bytes in a call (own) (pages of read and write)"),
     (f"{ENDS}{LONE}", ALONE, [*LARGE[:2], "50 60 p1 getfl 0 = 1"], 1, BARE),
+    # reads of a pipe at once that share its bytes, and one after another
+    (ENDS, SETUP, [FOUR, "20 40 p0 read 0 2 = x6163", "21 41 p1 read 0 2 = x6264"], 0, SHARES),
+    (ENDS, SETUP, [FOUR, "20 40 p0 read 0 2 = x6163", "41 42 p1 read 0 2 = x6264"], 1, BARE),
+    (ENDS, SETUP, [FOUR, "20 40 p0 read 0 2 = x6163", "21 41 p1 read 0 2 = x6265"], 1, BARE),
     # a read that is not woken has nothing to do with appending
     (ENDS, SETUP, NOT_WOKEN, 1, BARE),
     (f"{ENDS}{APPENDING}", APPENDED, NOT_WOKEN, 1, BARE),
     (f"{ENDS}{APPENDING}", APPENDED, ["20 30 p0 pread 2 0 9 = x6162", "25 31 p1 getfl 0 = 1"], 0, APPEND),
+    # in the order in which they came back the pwrite comes too early to append
+    (BOTH_OPEN, BOTH_APPEND, [*APPENDS, "40 41 p0 lseek 0 0 cur = 1", "42 43 p0 lseek 0 0 end = 3"], 0, APPEND),
+    (BOTH_OPEN, BOTH_APPEND, [*APPENDS, "40 41 p0 lseek 0 0 cur = 1", "42 43 p0 lseek 0 0 end = 4"], 1, BARE),
     # a limit of the system
     (JOINS, JOINED, ["20 30 p0 fork = error EAGAIN", "25 31 p1 open a r = 0"], 0, PROCESSES),
 ]

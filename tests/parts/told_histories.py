@@ -30,6 +30,7 @@ ATOMIC = "XSH 2.9.7: calls on regular files are atomic to each other; page of "
 REPLACED = "page of rename: a name that is replaced is never missing"
 NUMBERED = "docs/PROFILE.md: processes are numbered 0, 1, 2 .. in the order of joins and forks (own)"
 SMALL = "page of write: at most PIPE_BUF bytes are not interleaved; page of read"
+IN_PART = "page of write: at most PIPE_BUF bytes go in at once, and a part of them was seen; page of read"
 
 
 class Told(NamedTuple):
@@ -309,6 +310,33 @@ IMPOSSIBLE = [
         THREE_AT_A_PIPE,
         "1 9 p0 write 1 61*512 = 512; 1 9 p1 write 1 x62 = 1; 10 11 p2 read 0 1024 = "
         + plain_model.data_text(b"a" * 200 + b"b" + b"a" * 312),
+        ("p2 read 0 1024", SMALL),
+    ),
+    Told(
+        "a small write that is seen in part",
+        PIPE,
+        "1 9 p0 write 1 61*300 = 300; 2 3 p1 read 0 1024 = 61*100; 10 11 p1 read 0 1024 = 61*200",
+        ("p1 read 0 1024", IN_PART),
+    ),
+    Told(
+        "one of two small writes that is seen in part",
+        THREE_AT_A_PIPE,
+        "1 9 p0 write 1 61*300 = 300; 10 19 p0 write 1 62*300 = 300; 2 3 p2 read 0 1024 = ?; "
+        "12 13 p2 read 0 1024 = 62*200; 20 21 p1 read 0 1024 = 62*100",
+        ("p2 read 0 1024", IN_PART),
+    ),
+    Told(
+        "small writes of equal bytes, of which one is seen in part",
+        THREE_AT_A_PIPE,
+        "1 9 p0 write 1 61*300 = 300; 1 9 p1 write 1 61*300 = 300; 2 3 p2 read 0 1024 = 61*100; "
+        "10 11 p2 read 0 1024 = 61*500",
+        ("p2 read 0 1024", IN_PART),
+    ),
+    Told(
+        "a small write that a large one is between",
+        THREE_AT_A_PIPE,
+        "1 9 p0 write 1 61*300 = 300; 1 9 p1 write 1 62*600 = 600; 10 11 p2 read 0 1024 = "
+        + plain_model.data_text(b"a" * 200 + b"b" * 600 + b"a" * 100),
         ("p2 read 0 1024", SMALL),
     ),
     Told(

@@ -94,6 +94,7 @@ ROOMY = {
     "has-pages": plain_model.Limits(capacity=65_536),
     "tears-small-writes": plain_model.Limits(capacity=16_384),
     "has-two-pages": plain_model.Limits(capacity=8_192),
+    "has-large-pages": plain_model.Limits(capacity=65_536),
     "has-smaller-pipes-than-fifos": plain_model.Limits(capacity=65_536),
     "refuses-beside-pages": plain_model.Limits(capacity=65_536),
     "has-pages-once": plain_model.Limits(capacity=65_536),
@@ -447,6 +448,43 @@ def refused_write(
     return paged_write(False)(world, process, at, data)
 
 
+# How many bytes a large page has, and where the bytes in each such page of a pipe begin and end.
+LARGE_PAGE = 16_384
+FILLED: dict[plain_model.Pipe, list[list[int]]] = {}
+
+
+def write_in_large_pages(
+    world: plain_model.World, process: plain_model.Process, at: plain_model.Description, data: bytes
+) -> plain_model.Reply:
+    """A write under nonblock to a pipe of four large pages: what it has more than whole pages goes on in the last one
+    that is used, if it fits there, and all else into others."""
+    assert at.pipe
+    if not at.nonblock or not world.has_end(at.pipe, "r"):
+        return WRITE_END(world, process, at, data)
+    used, held, moved = FILLED.setdefault(at.pipe, []), len(at.pipe.data), 0
+    while used and sum(end - begin for begin, end in used[1:]) >= held:
+        used.pop(0)
+    if used:
+        used[0][0] = used[0][1] - (held - sum(end - begin for begin, end in used[1:]))
+    if used and used[-1][1] + len(data) % LARGE_PAGE <= LARGE_PAGE:
+        moved = len(data) % LARGE_PAGE
+        used[-1][1] += moved
+    while moved < len(data) and len(used) < 4:
+        used.append([0, min(LARGE_PAGE, len(data) - moved)])
+        moved += used[-1][1]
+    plain_model.require(moved, "EAGAIN")
+    at.pipe.data += data[:moved]
+    world.bytes_in += moved
+    return moved
+
+
+def half_read(call: WaitingRead, world: plain_model.World) -> tuple[plain_model.Reply, bool]:
+    """What a read gives that waited: it leaves half of it to another one of its pipe that waits."""
+    others = [it.waits for it in world.processes.values() if isinstance(it.waits, WaitingRead) and it.waits is not call]
+    is_shared = any(other.pipe is call.pipe for other in others)
+    return world.get(call.pipe, min(call.count, -(-len(call.pipe.data) // 2) if is_shared else call.count)), True
+
+
 def smaller_pipe(world: plain_model.World, process: plain_model.Process) -> plain_model.Reply:
     """A pipe of 4,096 bytes."""
     ends = PIPE(world, process)
@@ -510,6 +548,8 @@ OTHERWISE: dict[str, list[tuple[type, str, Callable[..., object]]]] = {
         (plain_model.Pipe, "room", paged_room),
         (plain_model.World, "write_end", paged_write(False)),
     ],
+    "has-large-pages": [(plain_model.World, "write_end", write_in_large_pages)],
+    "shares-reads": [(WaitingRead, "go_on", half_read)],
     "has-smaller-pipes-than-fifos": [(plain_model.World, "pipe", smaller_pipe)],
     "refuses-beside-pages": [
         (plain_model.Pipe, "room", paged_room),

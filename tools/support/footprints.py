@@ -271,10 +271,11 @@ TOUCHES: dict[str, Callable[[Asked, Touch], None]] = {
 
 
 class Footprints:
-    """What each call of a history touches."""
+    """What each call of a history touches. A pwrite may heed whether its description appends."""
 
-    def __init__(self, history: Sequence[Noted]) -> None:
+    def __init__(self, history: Sequence[Noted], heeds_append: bool = False) -> None:
         self.history = history
+        self.heeds_append = heeds_append
         self.names = Names(history)
         self.born: dict[int, Table] = {}
         self.touches: list[Touch] = [Touch() for _ in history]
@@ -313,6 +314,8 @@ class Footprints:
             touch.at = asked.opened() if plain_model.FIELDS[word][:1] == (plain_model.read_fd,) else None
             if word in TOUCHES:
                 TOUCHES[word](asked, touch)
+            if word == "pwrite" and touch.at and self.heeds_append:
+                touch.looks.add(touch.at.status)
         if noted.outcome.startswith("error "):
             touch.changes, touch.holds = set(), set()
         return touch

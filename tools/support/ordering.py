@@ -5,18 +5,21 @@ comes first, and the plain model, to which the calls come one after another, giv
 end no call that waits may be ready.
 """
 
+import contextlib
 import itertools
 import time
 from collections.abc import Sequence
 from typing import NamedTuple
 
 from support.footprints import Footprints
+from support.guesses import with_guesses
 from support.histories import UNKNOWN, WAITS, Noted
 from support.late_links import late_links
 from support.pieces import are_cut_off, are_of_pipes, chunked, clipped, ended_early, in_parts, is_past_most
-from support.pieces import Rewrite, rewritten
+from support.pieces import Rewrite, rests_in, rewritten
 from support.plain_model import DEFAULTS, PIPE_BUF, PIPE_CAPACITY_MOST, Limits
 from support.searching import Search, Step, TooLong
+from support.sharing import Sharing, are_of_one_pipe, in_turns
 from support.shortening import Shortening
 
 STATES_MOST = 1_000_000
@@ -39,9 +42,12 @@ class Explained(NamedTuple):
 
 
 class ByRoom(NamedTuple):
-    """A history that an order explains only where a pipe has the room of ROOMY: the steps of that order."""
+    """A history that an order explains only where a pipe has the room of ROOMY: the history, the steps of that order,
+    and these limits."""
 
+    history: list[Noted]
     steps: list[Step]
+    limits: Limits
 
 
 class ByParts(NamedTuple):
@@ -81,6 +87,15 @@ class ByTransfer(NamedTuple):
     limits: Limits
 
 
+class ByShares(NamedTuple):
+    """A history that an order explains only where reads of a pipe at once share its bytes: the history in which each
+    turn of such a read is a read, the steps of that order, and the limits of its run."""
+
+    history: list[Noted]
+    steps: list[Step]
+    limits: Limits
+
+
 class Unexplained(NamedTuple):
     """A history that no order explains: a small part of it that none explains either, the call that makes it impossible
     with those that overlap it, and the page of the standard that it is about."""
@@ -97,6 +112,7 @@ class GivenUp(NamedTuple):
 
 
 Result = Explained | Unexplained | GivenUp
+By = ByRoom | ByParts | ByEpipe | ByEarlyEnd | ByTransfer | ByShares
 
 
 def explain(
@@ -119,8 +135,8 @@ def explain(
     each = max(EACH_LEAST, EACH_TIMES * (time.monotonic() - began))
     shrunk = Shortening(limits, states_most, shrink_seconds, each).shortest(ordered)
     blamed = blamed_in(shrunk)
-    is_torn = shrink_seconds > 0 and are_interleaved(ordered, blamed[0], limits, states_most)
-    return Unexplained(shrunk, blamed, page_of(shrunk, blamed[0], is_torn))
+    torn = torn_by(ordered, blamed[0], limits, states_most) if shrink_seconds > 0 else None
+    return Unexplained(shrunk, blamed, page_of(shrunk, blamed[0], torn))
 
 
 def by_room(history: Sequence[Noted], states_most: int = STATES_MOST, seconds: float = SECONDS) -> ByRoom | None:
@@ -128,7 +144,8 @@ def by_room(history: Sequence[Noted], states_most: int = STATES_MOST, seconds: f
     if not any(noted.act.word in ("pipe", "mkfifo") for noted in history):
         return None
     result = explain(history, states_most, seconds, 0, ROOMY)
-    return ByRoom(result.steps) if isinstance(result, Explained) else None
+    ordered = sorted(history, key=lambda noted: noted.start)
+    return ByRoom(ordered, result.steps, ROOMY) if isinstance(result, Explained) else None
 
 
 def by_parts(
@@ -208,6 +225,39 @@ def by_rewriting(
     return None
 
 
+def by_shares(
+    history: Sequence[Noted], states_most: int = STATES_MOST, seconds: float = SECONDS, *limits: Limits
+) -> ByShares | None:
+    """An order of a history that explains it where reads of a pipe at once share its bytes, if there is one, in a run
+    of the first of these limits that has one; large writes go in at once, or by parts."""
+    told = sorted(history, key=lambda noted: noted.start)
+    for ordered in filter(None, (told, in_parts(told))):
+        for one in limits:
+            with contextlib.suppress(TooLong):
+                steps = Sharing(ordered, one, states_most, seconds).order()
+                turns = in_turns(ordered, steps) if steps is not None else []
+                if steps and are_of_one_pipe(ordered, steps, one) and are_of_pipes(told, steps, one):
+                    return ByShares(turns, steps, one)
+    return None
+
+
+def by_choice(
+    history: Sequence[Noted], states_most: int, seconds: float, limits: Limits, has_room: bool, are_at_once: bool
+) -> By | None:
+    """An order of a history that explains it by one of these choices, if there is one. It is told whether it is known
+    how much room a pipe has, and whether calls overlap."""
+    most = states_most, seconds
+    rooms = (limits,) if has_room else (limits, ROOMY)
+    found: By | None = None if has_room else by_room(history, *most)
+    found = found or by_parts(history, *most, *rooms) or by_epipe(history, *most, *rooms)
+    if found or not are_at_once:
+        return found
+    others = by_early_end(history, *most, *rooms) or by_transfer(history, *most, *rooms)
+    others = others or by_shares(history, *most, *rooms)
+    guessed = None if others else with_guesses(sorted(history, key=lambda noted: noted.start))
+    return (by_parts(guessed, *most, *rooms) or by_shares(guessed, *most, *rooms)) if guessed else others
+
+
 def without_epipe(noted: Noted) -> Noted:
     """A call without its answer, where that is EPIPE of a write that may go in by parts."""
     is_large = noted.act.word == "write" and len(noted.act.fields[1]) > PIPE_BUF
@@ -223,20 +273,32 @@ def by_late_links(history: Sequence[Noted], states_most: int = STATES_MOST, seco
         return isinstance(explain(history, states_most, seconds, 0), Explained)
 
 
-def are_interleaved(history: Sequence[Noted], blamed: Noted, limits: Limits, states_most: int) -> bool:
-    """Whether an order explains a history up to a call where small writes to a pipe go in by parts, too."""
+def torn_by(history: Sequence[Noted], blamed: Noted, limits: Limits, states_most: int) -> str | None:
+    """What has torn small writes to a pipe, if an order explains a history up to a call where they go in by parts, too:
+    a reader, which has seen one in part, or other writers, whose bytes are between those of one."""
     begun = [noted for noted in history if blamed.end is not None and noted.start <= blamed.end]
     parted = in_parts(begun, 1)
-    result = explain(parted, states_most, PARTS_SECONDS, 0, limits) if parted else None
-    return isinstance(result, Explained) and are_of_pipes(begun, result.steps, limits)
+    rests = rests_in(begun, parted) if parted else []
+    for what, kept in ((SEEN_IN_PART, rests), (INTERLEAVED, [])) if parted else ():
+        with contextlib.suppress(TooLong):
+            search = Search(parted or [], limits, states_most, PARTS_SECONDS)
+            search.keep_together(kept)
+            steps = search.order()
+            if steps is not None and are_of_pipes(begun, steps, limits):
+                return what
+    return None
 
 
 # ---- who is to blame
 
 
 def blamed_in(history: Sequence[Noted]) -> list[Noted]:
-    """The call that makes a history impossible, with those that overlap it; the ones that may disturb it first."""
-    place = max(range(len(history)), key=lambda place: blame(history[place]))
+    """The call that makes a history impossible, with those that overlap it."""
+    return with_overlapping(history, max(range(len(history)), key=lambda place: blame(history[place])))
+
+
+def with_overlapping(history: Sequence[Noted], place: int) -> list[Noted]:
+    """A call of a history, with those that overlap it; the ones that may disturb it first."""
     first, touches = history[place], Footprints(history).touches
     others = [
         (not touches[place].disturbs(touches[other]), -noted.start, noted)
@@ -267,14 +329,17 @@ ATOMIC = """
 """.split()
 # Calls whose page has another name.
 PAGES = {"getfl": "page of fcntl", "setfl": "page of fcntl"}
+# What may be wrong with writes of at most PIPE_BUF bytes.
+SEEN_IN_PART = "page of write: at most PIPE_BUF bytes go in at once, and a part of them was seen"
+INTERLEAVED = "page of write: at most PIPE_BUF bytes are not interleaved"
 REPLACED = "page of rename: a name that is replaced is never missing"
 WAITS_AT_FILE = "on a regular file no call waits"
 NUMBERED = "docs/PROFILE.md: processes are numbered 0, 1, 2 .. in the order of joins and forks (own)"
 
 
-def page_of(history: Sequence[Noted], blamed: Noted, is_torn: bool = False) -> str:
+def page_of(history: Sequence[Noted], blamed: Noted, torn: str | None = None) -> str:
     """The page of the standard that a call departs from, if no order explains it. Calls are atomic to others where some
-    are made at once. That small writes are torn is told where it explains all."""
+    are made at once. What has torn small writes is told where that explains all."""
     footprints = Footprints(history)
     at = footprints.touches[list(history).index(blamed)].at
     word = blamed.act.word
@@ -289,8 +354,7 @@ def page_of(history: Sequence[Noted], blamed: Noted, is_torn: bool = False) -> s
     if is_of_fifo:
         return "page of open: a FIFO"
     if at and at.may_be_pipe:
-        torn = f"page of write: at most PIPE_BUF bytes are not interleaved; {page_name(word)}"
-        return torn if is_torn else f"{page_name(word)}: a pipe or FIFO"
+        return f"{torn}; {page_name(word)}" if torn else f"{page_name(word)}: a pipe or FIFO"
     if word in ATOMIC and are_at_once(history, footprints):
         return f"XSH 2.9.7: calls on regular files are atomic to each other; {page_name(word)}"
     return page_name(word)

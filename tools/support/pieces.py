@@ -2,7 +2,7 @@
 page of write leaves that open, with nonblock and without. In fdref such a write goes in at once where there is room.
 
 Where the parts end is told by what was read: where a read ends, or goes on with the bytes of another write. Each part
-is then a write of its own, made in the time of the whole.
+is then a write of its own, made in the time of the whole. One that waits at the end has its last part wait.
 
 One that waits, and ends early since the last reader has gone, gives what it moved in all: how much that is is left
 open, too. It is a write of just that, and one of the rest, which finds no reader. One of more bytes than fdref takes in
@@ -14,7 +14,7 @@ from collections import deque
 from collections.abc import Callable, Iterable, Iterator, Sequence
 
 from support import plain_model
-from support.histories import WAITS, Noted
+from support.histories import UNKNOWN, WAITS, Noted
 from support.plain_model import PIPE_BUF, TRANSFER_MAX, Act, Limits
 from support.runs import ALL_RECORDS
 from support.searching import Step
@@ -42,12 +42,19 @@ class Taken:
         self.ends.add(self.count)
 
     def parts(self, most_at_once: int) -> list[Noted]:
-        """The write, or its parts, if it has more bytes than go in at once."""
-        if len(self.data) <= most_at_once or self.noted.outcome != str(len(self.data)) or len(self.ends) > PARTS_MOST:
+        """The write, or its parts, if it has more bytes than go in at once. Where it waits at the end, or its answer is
+        not known, so it is with the last part: what was read of it has gone in."""
+        moved_all = str(len(self.data))
+        if len(self.data) <= most_at_once or self.noted.outcome not in (moved_all, WAITS, UNKNOWN):
+            return [self.noted]
+        if len(self.ends) > PARTS_MOST:
             return [self.noted]
         ends = sorted({*self.ends, len(self.data)})
         pieces = [self.data[begin:end] for begin, end in zip([0, *ends], ends, strict=False)]
-        return [self.noted._replace(act=with_data(self.noted.act, it), outcome=str(len(it))) for it in pieces]
+        parts = [self.noted._replace(act=with_data(self.noted.act, it), outcome=str(len(it))) for it in pieces]
+        if self.noted.outcome != moved_all:
+            parts[-1] = parts[-1]._replace(outcome=self.noted.outcome)
+        return parts
 
 
 def with_data(act: Act, data: bytes) -> Act:
@@ -86,6 +93,21 @@ def in_parts(history: Sequence[Noted], most_at_once: int = PIPE_BUF) -> list[Not
     parts = {at: it.parts(most_at_once) for at, it in taken.items()}
     parted = [it for at, noted in enumerate(history) for it in parts.get(at, [noted])]
     return parted if len(parted) > len(history) else None
+
+
+def rests_in(history: Sequence[Noted], parted: Iterable[Noted]) -> list[Noted]:
+    """The parts of the small writes of a history, but for the first of each, where it has such parts."""
+    rests: list[Noted] = []
+    parts = iter(parted)
+    for noted in history:
+        part = next(parts)
+        size = len(noted.act.fields[1]) if part is not noted else 0
+        left = size - len(part.act.fields[1]) if size else 0
+        while left:
+            part = next(parts)
+            left -= len(part.act.fields[1])
+            rests += [part] if size <= PIPE_BUF else []
+    return rests
 
 
 # ---- writes that end early, and calls of more bytes than fdref takes

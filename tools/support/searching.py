@@ -16,7 +16,7 @@ from support import plain_model
 from support.footprints import Footprints, rivals
 from support.foretold import Foretold, Stream, Written, fits
 from support.histories import UNKNOWN, Noted
-from support.plain_model import Limits
+from support.plain_model import Limits, World
 from support.unseen import last_looks
 from support.worlds import States
 
@@ -92,6 +92,9 @@ class Call:
         self.resume = plain_model.Act(noted.process, "resume")
         # whether it is a write that may end in EPIPE though it has moved a part, where the model gives the part
         self.may_break = False
+        # whether it is the rest of the write before it, to the same file
+        self.is_rest = False
+        self.file: object = None
 
     def can_give(self, outcome: str) -> bool:
         """Whether the call may end with this outcome."""
@@ -115,23 +118,34 @@ def is_made_by(noted: Noted) -> bool:
 
 
 class Place(NamedTuple):
-    """Where a search is: how many calls of each process have begun, these as bits, and the number of the state."""
+    """Where a search is: how many calls of each process have begun, these as bits, and the number of the state; and how
+    many bytes of its next read each process has, where reads share what a pipe holds."""
 
     begun: tuple[int, ...]
     bits: int
     state: int
+    taken: tuple[int, ...] = ()
 
 
 class Search:
-    """A search for the order of a history."""
+    """A search for the order of a history, by the plain model or by another kind of world, in which the flags of a
+    description may tell where a pwrite goes."""
 
-    def __init__(self, history: Sequence[Noted], limits: Limits, states_most: int, seconds: float) -> None:
-        self.states = States(limits)
+    def __init__(
+        self,
+        history: Sequence[Noted],
+        limits: Limits,
+        states_most: int,
+        seconds: float,
+        world: type[World] = World,
+    ) -> None:
+        self.states = States(limits, world)
         self.states_most = states_most
         self.until = time.monotonic() + seconds
         self.processes = sorted({noted.process for noted in history})
-        footprints = Footprints(history)
-        known = rivals(history, footprints.touches)
+        footprints = Footprints(history, heeds_append=world is not World)
+        self.touches = footprints.touches
+        known = rivals(history, self.touches)
         self.foretold = Foretold(history, footprints)
         writes, looks = self.foretold.writes, last_looks(history, footprints, limits)
         calls = [
@@ -139,13 +153,33 @@ class Search:
             for number, noted in enumerate(history)
         ]
         self.calls = [[call for call in calls if call.noted.process == process] for process in self.processes]
+        for call, touch in zip(calls, self.touches, strict=True):
+            call.file = touch.at.file if touch.at else None
+        self.has_rests = False
         self.wanted = sum(call.bit for call in calls if not call.is_optional)
-        self.seen: set[tuple[int, int]] = set()
+        self.seen: set[tuple[int, int, tuple[int, ...]]] = set()
 
     def let_break(self, writes: Sequence[Noted]) -> None:
         """Lets these writes, whose answers are not known, end in EPIPE though they have moved a part."""
         for call in (call for calls in self.calls for call in calls):
             call.may_break = any(call.noted is noted for noted in writes)
+
+    def keep_together(self, rests: Sequence[Noted]) -> None:
+        """Lets no other write to the same file come between one of these and the call of its process before it."""
+        known = {id(noted) for noted in rests}
+        self.has_rests = bool(known)
+        for call in (call for calls in self.calls for call in calls):
+            call.is_rest = id(call.noted) in known
+
+    def is_between(self, place: Place, call: Call) -> bool:
+        """Whether a call would come between a write and its rest."""
+        waiting = self.states.waiting[place.state]
+        for process, calls, begun in zip(self.processes, self.calls, place.begun, strict=True):
+            number = begun - (process in waiting)
+            rest = calls[number] if process != call.noted.process and number < len(calls) else None
+            if rest and rest.is_rest and rest.file == call.file:
+                return True
+        return False
 
     def order(self) -> list[Step] | None:
         """The steps of an order, or None where there is none."""
@@ -154,7 +188,7 @@ class Search:
 
     def was_seen(self, place: Place) -> bool:
         """Whether a place was tried before; from now on it was."""
-        key = place.bits, place.state
+        key = place.bits, place.state, place.taken
         if key in self.seen:
             return True
         self.seen.add(key)
@@ -210,6 +244,8 @@ class Search:
 
     def resumed(self, place: Place, call: Call) -> Iterator[tuple[Step, Place]]:
         """The next try of a call that waits."""
+        if self.has_rests and call.act.word == "write" and self.is_between(place, call):
+            return
         outcome, state = self.states.after(place.state, call.resume)
         if outcome is not None and (outcome.startswith("part ") or call.can_end(outcome)):
             after = place._replace(state=state)
@@ -218,10 +254,12 @@ class Search:
 
     def begun(self, place: Place, at: int, call: Call) -> Iterator[tuple[Step, Place]]:
         """A call that takes effect, or begins to wait."""
+        if self.has_rests and call.act.word == "write" and self.is_between(place, call):
+            return
         outcome, state = self.states.after(place.state, call.act)
         if outcome is not None and (outcome.startswith("parked ") or call.can_give(outcome)):
             begun = (*place.begun[:at], place.begun[at] + 1, *place.begun[at + 1 :])
-            after = Place(begun, place.bits | call.bit, state)
+            after = Place(begun, place.bits | call.bit, state, place.taken)
             if call.looks is not None and not call.looks & ~after.bits and not outcome.startswith("error "):
                 # nobody will look at what it has written
                 state = self.states.without_bytes(state, call.noted.process, call.act.fields[0])

@@ -150,9 +150,9 @@ def thawed_wait(told: tuple[object, ...], files: list[Regular | Pipe | Fifo]) ->
     return opening
 
 
-def thawed(state: State, limits: Limits) -> World:
-    """A world in a state, which shares nothing with any other."""
-    world = World(limits)
+def thawed(state: State, limits: Limits, kind: type[World] = World) -> World:
+    """A world of a kind in a state, which shares nothing with any other."""
+    world = kind(limits)
     world.next_number, world.is_closed = state.next_number, state.is_closed
     files = thawed_files(state, world)
     descriptions = []
@@ -211,10 +211,12 @@ Came = tuple[str | None, int]
 
 
 class States:
-    """The states that were met, by their numbers, and what each act comes to in them. State 0 is the empty world."""
+    """The states that were met, by their numbers, and what each act comes to in them, in a world of some kind. State 0
+    is the empty world."""
 
-    def __init__(self, limits: Limits = DEFAULTS) -> None:
+    def __init__(self, limits: Limits = DEFAULTS, world: type[World] = World) -> None:
         self.limits = limits
+        self.world = world
         self.all: list[State] = []
         self.numbers: dict[State, int] = {}
         self.waiting: list[frozenset[int]] = []
@@ -236,7 +238,7 @@ class States:
         key = number, act
         came = self.steps.get(key)
         if came is None:
-            world = self.stepper.world = thawed(self.all[number], self.limits)
+            world = self.stepper.world = thawed(self.all[number], self.limits, self.world)
             self.stepper.take(act)
             came = self.steps[key] = self.stepper.outcome, self.number(frozen(world))
         return came
