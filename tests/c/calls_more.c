@@ -16,6 +16,8 @@
 #include <sys/wait.h>
 #include <unistd.h>
 
+#include "exec_words.h"
+
 /* Looks about, also for a descriptor, makes some, and leaves all as it was. */
 static void look_about(int fd)
 {
@@ -72,13 +74,11 @@ int execve(const char *path, char *const list[], char *const env[])
 
 int execl(const char *path, const char *word, ...)
 {
-    char *list[8];
-    va_list values;
-    va_start(values, word);
-    memcpy(&list[0], &word, sizeof word);
-    for (int at = 0; at < 7 && list[at];)
-        list[++at] = va_arg(values, char *);
-    va_end(values);
+    char *list[EXEC_WORDS_MOST];
+    va_list others;
+    va_start(others, word);
+    list_words(list, word, others);
+    va_end(others);
     look_about(-1);
     return execve(path, list, environ);
 }

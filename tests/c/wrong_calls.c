@@ -92,6 +92,8 @@
 #include <sys/wait.h>
 #include <unistd.h>
 
+#include "exec_words.h"
+
 static int is_wrong(const char *how)
 {
     const char *wrong = getenv("WRONG");
@@ -318,13 +320,11 @@ int execvp(const char *path, char *const list[])
 
 int execl(const char *path, const char *word, ...)
 {
-    char *list[8];
-    va_list values;
-    va_start(values, word);
-    memcpy(&list[0], &word, sizeof word);
-    for (int at = 0; at < 7 && list[at];)
-        list[++at] = va_arg(values, char *);
-    va_end(values);
+    char *list[EXEC_WORDS_MOST];
+    va_list others;
+    va_start(others, word);
+    list_words(list, word, others);
+    va_end(others);
     return execvp(path, list);
 }
 
