@@ -5,9 +5,9 @@ usage: tests/documents.py
 
 README has few lines and words, no line of a Markdown file is too long, and all together are short enough. No line of
 the definitions and proofs is too long, but for `use` lines, comments and texts that they quote. Each link
-leads to a file, and to a heading of it where it names one. Each path in backquotes is there, and each name in
-backquotes stands somewhere in the sources. Where a limit is told it is that of the code. The last line is `N passed,
-M failed`.
+leads to a file, and to a heading of it where it names one. Each path in backquotes is there, each name in backquotes
+stands somewhere in the sources, and what is named as of a type is one of its functions, variants or fields. Where a
+limit is told it is that of the code. The last line is `N passed, M failed`.
 """
 
 import re
@@ -163,10 +163,35 @@ def sources() -> set[str]:
     return found
 
 
-def is_named(name: str, known: set[str]) -> None:
-    """Fails unless each part of a name stands in the sources, or the whole of it is a file."""
+# What begins a type, a trait or an implementation in the code, and what one of these has.
+OWNER = re.compile(r"(?:pub(?:\(crate\))? )?(?:struct|enum|trait|impl)\b.*")
+MEMBER = re.compile(r"    (?:pub(?:\(crate\))? )?(?:const fn|fn|const|type|ghost) (\w+)|    (?:pub(?:\(crate\))? )?([A-Za-z]\w*)\b")
+
+
+def members() -> dict[str, set[str]]:
+    """What each type and trait of the crates has, its implementations together: functions, variants and fields."""
+    found: dict[str, set[str]] = {}
+    for file in TOP.glob("crates/*/src/**/*.rt"):
+        owners: list[str] = []
+        for line in text_of(str(file.relative_to(TOP))).splitlines():
+            if OWNER.match(line):
+                owners = re.findall(r"\b[A-Z]\w*", line)
+            elif line == "}":
+                owners = []
+            member = MEMBER.match(line)
+            for owner in owners if member else []:
+                found.setdefault(owner, set()).add(member[1] or member[2])
+    return found
+
+
+def is_named(name: str, known: set[str], owned: dict[str, set[str]]) -> None:
+    """Fails unless each part of a name stands in the sources, or the whole of it is a file, and unless a type has what
+    stands after it."""
     parts = re.findall(r"\w+", name)
     require(name in known or all(part in known for part in parts), f"nothing is called {name}")
+    owner, _, member = name.partition("::")
+    if owner in owned and re.fullmatch(r"\w+", member):
+        require(member in owned[owner], f"{owner} has no {member}")
 
 
 def is_there(path: str) -> None:
@@ -176,13 +201,13 @@ def is_there(path: str) -> None:
     require((TOP / path.rstrip("/.")).exists() or bool(re.search(r"(^|/)out(/|$)", path)), f"there is no {path}")
 
 
-def check_names(count: Count, page: str, known: set[str]) -> None:
+def check_names(count: Count, page: str, known: set[str], owned: dict[str, set[str]]) -> None:
     """Looks for what a page names in backquotes."""
     for name in sorted(set(quoted(page))):
         if PATH.fullmatch(name):
             count.check(page, partial(is_there, name))
         elif NAME.fullmatch(name) and not FREE.fullmatch(name):
-            count.check(page, partial(is_named, name, known))
+            count.check(page, partial(is_named, name, known, owned))
 
 
 def limits() -> dict[str, int]:
@@ -208,12 +233,12 @@ def main() -> int:
     count.check("words of README", partial(is_at_most, README_WORDS, words("README.md")))
     count.check("words of README and docs", partial(is_at_most, WORDS, sum(map(words, pages()))))
     count.check("width of definitions and proofs", partial(are_narrow, proofs()))
-    known = sources()
+    known, owned = sources(), members()
     for page in [*pages(), *notes()]:
         count.check(f"width of {page}", partial(is_narrow, page, README_WIDTH if page == "README.md" else WIDTH))
         for link in links(page):
             count.check(page, partial(leads_somewhere, page, link))
-        check_names(count, page, known)
+        check_names(count, page, known, owned)
     return count.end()
 
 
