@@ -1,29 +1,36 @@
 #!/usr/bin/env python3
 """Tells which processes of a trace wait, in what calls, and for whom.
 
-usage: tools/waiting.py TRACE
+usage: tools/waiting.py [--no-connections] TRACE
 
 TRACE is a file that `fdref serve` has written, or is writing still: where a server seems to stand still, this tells
 what its clients wait for. Of each process that is there a line says in what call it waits, since which record, and who
 has the other end of the pipe or FIFO; or that the call can go on, so that its resume is due; that it waits in no call;
 or that it was forked and has no connection. A line tells, too, of each process that ended in a call that could go on,
-since which record it could. Its wake is lost if others were recorded meanwhile, or if nothing but exits comes after.
+since which record it could. Its wake is lost if others were recorded meanwhile, or if nothing but exits comes after a
+record that is none: an exit that wakes somebody may be one of those by which a run is only ended.
 But where the header has a number of records, as that of `fdref serve`, or version 1, a connection may have been lost in
-that moment, or the run had no record for the resume: that says nothing of a wake. Then it tells how many bytes of a
+that moment, or the run had no record for the resume: that says nothing of a wake. --no-connections says that nobody
+who wrote TRACE has a connection that can be lost, as an emulator has none. Then it tells how many bytes of a
 record that is not whole are left over, as a server leaves them that was killed. The last line counts the processes.
 What a server has answered stands in TRACE about a millisecond later. Whether a client reads its answers it does not
 tell: one that does not waits in no call. Nor does a trace have the number of sessions, or a connection that has sent
 nothing yet, which takes one of them: while a run goes on, a line says so.
 
+A call that can go on has lost its wake where a server that still writes TRACE, which it locks, has no resume of it for
+a third of a second. Of a trace that no server writes any more, as one that was killed, that is known only where no
+connection can have been lost, and others were recorded since; else the trace ends there, and that is told.
+
 Exit status: 0 where a process that has a connection waits in no call, or there is none; 1 where all of them wait, and
-the call of none can go on, or where one can go on and did not for a third of a second, so that its wake is lost, or the
-wake of one is lost that has ended; 2 for wrong words; 3 where TRACE cannot be read, or is malformed or illegal.
+the call of none can go on, or where a wake is lost, also of one that has ended; 2 for wrong words; 3 where TRACE cannot
+be read, or is malformed or illegal.
 """
 
 import argparse
+import fcntl
 import sys
 import time
-from collections.abc import Iterator, Sequence
+from collections.abc import Collection, Iterator, Sequence
 from pathlib import Path
 from typing import NamedTuple
 
@@ -42,10 +49,14 @@ RESUME_SECONDS = 0.3
 # How much of a call is shown.
 CALL_SHOWN = 60
 
-# What is told of a call that could go on, and has no resume: one of the last two where a server may have written that.
+# What is told of a call that could go on, and has no resume: that its wake is lost, or else what may be why, the last two
+# where a server may have written that.
 WAKE_LOST = ": its wake is lost"
+ONLY_ENDED = ": its wake is lost, or the run was only ended"
 ANY_LOST = ": its wake is lost, or its connection was"
 NO_ROOM = ", and no record was free for its resume"
+# What is told of one that can go on where a trace ends that nobody writes any more.
+BREAKS_OFF = ": the trace ends there"
 
 # What is told of a file that is no trace at all.
 NO_TRACE = "it does not begin with FDTRACE1 or FDTRACE2, as a trace does"
@@ -97,41 +108,58 @@ class Unwoken(NamedTuple):
         return f"p{self.number} ended at record {self.exit} in {shown} of record {place}, {since}{self.why}"
 
 
-def unwoken_in(audit: Audit) -> list[Unwoken]:
-    """Those of a legal trace who ended in calls that could go on. Where there are some it is gone through again."""
-    assert isinstance(audit.judge, Watching)
-    ended = audit.judge.ended
+def ready_since(audit: Audit, numbers: Collection[int]) -> dict[int, int]:
+    """The places of the records since which the calls of some processes can go on, or could before their exits. Where
+    there are some the trace is gone through again."""
     ready: dict[int, int] = {}
     again = Judge(audit.judge.world.limits)
-    for place, text in enumerate(audit.frames.lines if ended else []):
+    for place, text in enumerate(audit.frames.lines if numbers else []):
         again.outcome_of(act_of(line_of(text).act))
-        for process in (again.world.processes.get(number) for number in ended):
+        for process in (again.world.processes.get(number) for number in numbers):
             if process and process.waits and process.waits.is_ready(again.world):
                 ready.setdefault(process.number, place)
             elif process:
                 ready.pop(process.number, None)
+    return ready
+
+
+def unwoken_in(audit: Audit, is_served: bool) -> list[Unwoken]:
+    """Those of a legal trace who ended in calls that could go on, where a server may have written it, or not."""
+    assert isinstance(audit.judge, Watching)
+    ended = audit.judge.ended
+    ready = ready_since(audit, ended)
     return [
-        Unwoken(number, ready[number], place, why_unwoken(audit, ready[number], place, wanted))
+        Unwoken(number, ready[number], place, why_unwoken(audit, is_served, ready[number], place, wanted))
         for number, (place, wanted) in ended.items()
     ]
 
 
-def why_unwoken(audit: Audit, since: int, place: int, wanted: int) -> str:
+def why_unwoken(audit: Audit, is_served: bool, since: int, place: int, wanted: int) -> str:
     """Why a call has no resume that could go on since a record, until the exit at a place, where it had wanted a run of
     so many records."""
     if audit.records and wanted > audit.records:
         return NO_ROOM
-    if audit.records or audit.judge.world.limits == OLD_LIMITS:
+    if is_served:
         return ANY_LOST
-    later = (line_of(text).act.split(" ")[1] for text in audit.frames.lines[place:])
-    return WAKE_LOST if place > since + 1 or all(word in ("exit", "close-run") for word in later) else ""
+    words = [line_of(text).act.split(" ")[1] for text in audit.frames.lines]
+    if not are_exits(words[since + 1 : place]):
+        return WAKE_LOST
+    if not are_exits(words[place:]):
+        return WAKE_LOST if place > since + 1 else ""
+    return ONLY_ENDED if are_exits(words[since : since + 1]) else WAKE_LOST
+
+
+def are_exits(words: Sequence[str]) -> bool:
+    """Whether these are the words of exits and of the closing of a run alone."""
+    return all(word in ("exit", "close-run") for word in words)
 
 
 class Standing:
-    """Where the processes of a run stand after the records of a trace."""
+    """Where the processes of a run stand after the records of a trace. It is told whether nobody who wrote that has a
+    connection that can be lost."""
 
-    def __init__(self, trace: bytes) -> None:
-        audit = Audit(trace, Watching)
+    def __init__(self, trace: bytes, has_no_connections: bool = False) -> None:
+        audit = self.audit = Audit(trace, Watching)
         if not audit.verdict.stdout.startswith(b"legal "):
             verdict = audit.verdict.stdout.decode().strip()
             raise BadTrace(verdict if trace.startswith(MAGICS) else f"{verdict}: {NO_TRACE}")
@@ -141,9 +169,12 @@ class Standing:
         # the last call of each process, with its place
         self.calls: dict[int, tuple[int, str]] = {}
         self.connections = 0
-        # the calls that can go on, and did not for a while: those of these processes
+        # whether a server writes the trace still, and whether one may have written it
+        self.is_written = False
+        self.is_served = bool(audit.records or self.world.limits == OLD_LIMITS) and not has_no_connections
+        # the calls that can go on, and whose wakes are lost: those of these processes
         self.lost: set[int] = set()
-        self.unwoken = unwoken_in(audit)
+        self.unwoken = unwoken_in(audit, self.is_served)
         for place, text in enumerate(audit.frames.lines):
             line = line_of(text)
             who, word = line.act.split(" ")[:2]
@@ -160,6 +191,12 @@ class Standing:
         """The processes whose calls can go on, with the places of these."""
         waiting = [it for it in self.world.processes.values() if it.attached and it.waits and not self.is_stuck(it)]
         return {(it.number, self.calls[it.number][0]) for it in waiting}
+
+    def passed(self) -> set[int]:
+        """The processes whose calls can go on, and after others have been recorded since."""
+        since = ready_since(self.audit, {number for number, _ in self.due()})
+        words = [line_of(text).act.split(" ")[1] for text in self.audit.frames.lines]
+        return {number for number, place in since.items() if not are_exits(words[place + 1 :])}
 
     def holders(self, process: Process) -> Iterator[str]:
         """Those who have the other end of the pipe that a process waits at."""
@@ -191,7 +228,7 @@ class Standing:
             return f"{who} waits in no call"
         place, shown = self.shown(process.number)
         moved = f", with {several(process.waits.moved, 'byte')} moved" if process.waits.moved else ""
-        late = WAKE_LOST if process.number in self.lost else ""
+        late = WAKE_LOST if process.number in self.lost else "" if self.is_written else BREAKS_OFF
         reason = self.reason(process) if self.is_stuck(process) else f"and can go on{late}"
         return f"{who} waits in {shown} since record {place}{moved}, {reason}"
 
@@ -229,7 +266,17 @@ class Standing:
         return bool(attached) and all(map(self.is_stuck, attached))
 
 
-def standing_in(path: Path) -> Standing:
+def is_locked(path: Path) -> bool:
+    """Whether somebody has locked a file, as a server does that writes its trace there."""
+    with path.open("rb") as file:
+        try:
+            fcntl.flock(file, fcntl.LOCK_SH | fcntl.LOCK_NB)
+        except BlockingIOError:
+            return True
+    return False
+
+
+def standing_in(path: Path, has_no_connections: bool = False) -> Standing:
     """Where the processes of a trace stand. Where a call can go on it is looked once more, a little later."""
     if path.is_fifo():
         raise BadTrace("it is a FIFO, of which somebody else may want the bytes")
@@ -237,13 +284,16 @@ def standing_in(path: Path) -> Standing:
         raise BadTrace("it is a socket; the trace of a server is the file of its --trace")
     trace = path.read_bytes()
     with Long(f"goes through a trace of {len(trace):,} bytes, record by record", "waiting.py"):
-        first = Standing(trace)
+        first = Standing(trace, has_no_connections)
         if not first.due():
             return first
+        is_written = is_locked(path)
         time.sleep(RESUME_SECONDS)
         later = path.read_bytes()
-        standing = first if later == trace else Standing(later)
-    standing.lost = {number for number, _ in first.due() & standing.due()}
+        standing = first if later == trace else Standing(later, has_no_connections)
+        late = {number for number, _ in first.due() & standing.due()}
+        standing.is_written = is_written and is_locked(path)
+        standing.lost = late if standing.is_written else set() if standing.is_served else late & standing.passed()
     return standing
 
 
@@ -252,6 +302,8 @@ def parse(words: Sequence[str]) -> argparse.Namespace:
     parser = argparse.ArgumentParser(
         description=__doc__, formatter_class=argparse.RawDescriptionHelpFormatter, usage=argparse.SUPPRESS
     )
+    no_connections = "nobody who wrote TRACE has a connection that can be lost"
+    parser.add_argument("--no-connections", action="store_true", help=no_connections)
     parser.add_argument("trace", metavar="TRACE", help="a trace, which a server may still be writing")
     return parser.parse_args(words)
 
@@ -260,7 +312,7 @@ def main(words: Sequence[str]) -> int:
     """Tells of a trace: the exit status."""
     args = parse(words)
     try:
-        standing = standing_in(Path(args.trace))
+        standing = standing_in(Path(args.trace), args.no_connections)
     except (BadTrace, OSError) as fault:
         # the text of an OSError has the path again
         why = fault.strerror if isinstance(fault, OSError) else fault

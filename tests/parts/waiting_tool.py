@@ -2,6 +2,7 @@
 
 import contextlib
 import errno
+import fcntl
 import io
 import os
 import random
@@ -9,7 +10,7 @@ import socket
 import sys
 import tempfile
 import time
-from collections.abc import Iterator
+from collections.abc import Iterator, Sequence
 from functools import partial
 from pathlib import Path
 from unittest import mock
@@ -110,9 +111,24 @@ BY_HAND: list[tuple[str, list[str], str, int]] = [
     (
         "an end after the exit of the last writer, and nothing else",
         [*PARKED, "6 p0 exit = ok", "7 p1 exit = ok", "8 house close-run = ok"],
-        "p1 ended at record 7 in read 0 5 of record 5, which could go on since record 6: its wake is lost\n"
-        f"{GONE}{NEVER}",
+        "p1 ended at record 7 in read 0 5 of record 5, which could go on since record 6: "
+        f"its wake is lost, or the run was only ended\n{GONE}",
+        0,
+    ),
+    (
+        "an end after the exit of the last writer and a call",
+        [*PARKED, "6 p0 fork = 2", "7 p2 attach = ok", "8 p2 close 1 = ok", "9 p0 exit = ok", "10 p2 close 0 = ok"]
+        + ["11 p1 exit = ok", "12 p2 exit = ok", "13 house close-run = ok"],
+        "p1 ended at record 11 in read 0 5 of record 5, which could go on since record 9: its wake is lost\n"
+        f"{GONE.replace('2 so', '3 so')}{NEVER}",
         1,
+    ),
+    (
+        "a call that can go on where the trace ends",
+        WRITTEN,
+        "p0 waits in no call\np1 waits in read 0 5 since record 5, and can go on: the trace ends there\n"
+        "2 processes, 2 with a connection (2 so far), 1 of which wait",
+        0,
     ),
     (
         "an end just as the call could go on",
@@ -135,12 +151,14 @@ SERVED = [
 ]
 
 
-def told(trace: bytes) -> Ran:
-    """What the tool tells of a trace."""
+def told(trace: bytes, *options: str, is_locked: bool = False) -> Ran:
+    """What the tool tells of a trace, which somebody has locked, or not."""
     with tempfile.NamedTemporaryFile(prefix="fdref-") as file:
         file.write(trace)
         file.flush()
-        return run([sys.executable, TOOL, file.name])
+        if is_locked:
+            fcntl.flock(file, fcntl.LOCK_EX)
+        return run([sys.executable, TOOL, *options, file.name])
 
 
 def by_hand(records: list[str], text: str, status: int) -> None:
@@ -153,6 +171,30 @@ def by_hand(records: list[str], text: str, status: int) -> None:
 def served(header: bytes, why: str) -> None:
     """What is told of the end in a call that could go on, where a server may have written the trace."""
     same(Ran(0, f"{ENDED}{why}\n{GONE}\n".encode(), b""), told(trace_of(LEFT, header)))
+
+
+def unserved() -> None:
+    """Where nobody has a connection, the number of records in a header says nothing of one that was lost."""
+    wanted = f"{ENDED}: its wake is lost\n{GONE}{NEVER}\n"
+    same(Ran(1, wanted.encode(), b""), told(trace_of(LEFT, header_bytes(11)), "--no-connections"))
+    wanted = f"{ENDED}, and no record was free for its resume\n{GONE}\n"
+    same(Ran(0, wanted.encode(), b""), told(trace_of(LEFT, header_bytes(10)), "--no-connections"))
+
+
+def broken_off() -> None:
+    """A call that can go on has lost its wake where a server still writes the trace, and else by what was recorded since
+    alone, if no connection can have been lost."""
+    more = [*WRITTEN, "7 p0 close 0 = ok"]
+    for records, is_locked, options, text in (
+        (WRITTEN, False, [], "the trace ends there"),
+        (WRITTEN, True, [], "its wake is lost"),
+        (more, False, [], "the trace ends there"),
+        (more, False, ["--no-connections"], "its wake is lost"),
+        (WRITTEN, False, ["--no-connections"], "the trace ends there"),
+    ):
+        ran = told(trace_of(records, header_bytes(99)), *options, is_locked=is_locked)
+        wanted = f"p1 waits in read 0 5 since record 5, and can go on: {text}"
+        same((text == "its wake is lost", wanted), (ran.status == 1, ran.stdout.decode().splitlines()[1]))
 
 
 def long_is_told() -> None:
@@ -258,8 +300,10 @@ def random_case(seed: str, number: int) -> None:
     for place, act in enumerate(acts):
         if act.word == "exit" and isinstance(act.actor, int) and act.actor in ready:
             ended.append(f"p{act.actor} ended")
-            only_exits = all(later.word in ("exit", "close-run") for later in acts[place:])
-            is_lost = is_lost or place > ready[act.actor] + 1 or only_exits
+            since = ready[act.actor]
+            meanwhile, later = acts[since + 1 : place], acts[place:]
+            is_lost = is_lost or not are_exits(meanwhile) or (not are_exits(later) and bool(meanwhile))
+            is_lost = is_lost or (are_exits(later) and not are_exits(acts[since : since + 1]))
         judge.outcome_of(act)
         can = [it.number for it in judge.world.processes.values() if it.waits and it.waits.is_ready(judge.world)]
         ready = {number: ready.get(number, place) for number in can}
@@ -274,8 +318,13 @@ def random_case(seed: str, number: int) -> None:
     same([*wanted, *ended], [seen(line) for line in lines[:-1] if line != UNSEEN])
     same(not judge.world.is_closed, UNSEEN in lines)
     attached = [line for line in wanted if not line.endswith("alone")]
-    is_lost = is_lost or any(line.endswith("ready") for line in attached)
+    is_lost = is_lost or any(it.attached and not are_exits(acts[ready.get(it.number, len(acts)) + 1 :]) for it in there)
     same(int(is_lost or (bool(attached) and all(line.endswith("stuck") for line in attached))), ran.status)
+
+
+def are_exits(acts: Sequence[Act]) -> bool:
+    """Whether these are exits and the closing of a run alone."""
+    return all(act.word in ("exit", "close-run") for act in acts)
 
 
 def seen(line: str) -> str:
@@ -283,7 +332,7 @@ def seen(line: str) -> str:
     if " ended at record " in line:
         return f"{line.split(' ')[0]} ended"
     ends = {"was forked and has no connection": "alone", "waits in no call": "goes on"}
-    ends["and can go on: its wake is lost"] = "ready"
+    ends.update({f"and can go on: {why}": "ready" for why in ("its wake is lost", "the trace ends there")})
     return f"{line.split(' ')[0]} {next((what for end, what in ends.items() if line.endswith(end)), 'stuck')}"
 
 
@@ -293,6 +342,8 @@ def cases(seed: str, count: int) -> Iterator[Case]:
         yield name, partial(by_hand, records, text, status)
     for name, header, why in SERVED:
         yield f"an end in a call that could go on, {name}", partial(served, header, why)
+    yield "a trace without connections", unserved
+    yield "a trace that breaks off, or goes on", broken_off
     yield "what takes long", long_is_told
     yield "what is not seen", nothing_is_told
     yield "a call that is taken up later", later_is_looked_at
