@@ -7,6 +7,7 @@ of several: a reason that is found there may be the one, and need not.
 
 import contextlib
 import itertools
+import time
 from collections.abc import Callable, Collection, Iterable, Iterator, Mapping, Sequence
 from types import MappingProxyType
 from typing import NamedTuple
@@ -18,7 +19,8 @@ from support.ordering import ROOMY, By
 from support.plain_model import Act, Limits, Pipe, World
 from support.replaying import Differs, is_waiting, replayed
 from support.runs import Line, Settled, line_of
-from support.searching import FOREVER, Search, Step, TooLong
+from support.searching import FOREVER, Call, Place, Search, Step, TooLong
+from support.worlds import thawed
 
 from compare_instead import Appending, ways
 from compare_reasons import APPENDED, OWN, Difference, Fillings, Reason, appended_to, follows_append
@@ -32,6 +34,8 @@ Why = Callable[[Difference], Reason | None]
 # The acts that the model is given instead of some calls, by their places.
 Instead = Mapping[int, Sequence[Act]]
 NOTHING: Instead = MappingProxyType({})
+# How often a search begins anew with more calls that may have a reason.
+ROUNDS = 6
 
 
 # The places of the calls that the model answers otherwise, and whether what comes after each can be compared.
@@ -77,20 +81,21 @@ def is_one_by_one(history: Sequence[Noted]) -> bool:
     )
 
 
-def in_order(history: Sequence[Noted], steps: Iterable[Step]) -> list[Noted]:
-    """The calls of a history in the order of these steps, each where it comes back."""
+def in_order(history: Sequence[Noted], steps: Iterable[Step], is_of_begin: bool = False) -> list[Noted]:
+    """The calls of a history in the order of these steps, each where it comes back, or where it begins."""
     begun: dict[object, int] = {}
-    last: dict[tuple[object, int], float] = {}
+    placed: dict[tuple[object, int], float] = {}
     for at, step in enumerate(steps):
         who = step.act.actor
         begun[who] = begun.get(who, -1) + (step.act.word != "resume")
-        last[who, begun[who]] = at
+        key = who, begun[who]
+        placed[key] = placed.get(key, at) if is_of_begin else at
     keyed = []
     counts: dict[int, int] = {}
     for noted in sorted(history, key=lambda noted: noted.start):
         number = counts.setdefault(noted.process, 0)
         counts[noted.process] += 1
-        keyed.append((last.get((noted.process, number), FOREVER), noted))
+        keyed.append((placed.get((noted.process, number), FOREVER), noted))
     return [noted for _, noted in sorted(keyed, key=lambda it: it[0])]
 
 
@@ -182,6 +187,11 @@ def is_given(noted: Noted, answer: str) -> bool:
     return answer == noted.outcome
 
 
+def lines_of(history: Iterable[Noted]) -> list[Line]:
+    """The calls of a history, in this order, as the lines of a run."""
+    return [Line(str(at), plain_model.act_text(noted.act), noted.outcome) for at, noted in enumerate(history)]
+
+
 # ---- what is apart
 
 
@@ -215,7 +225,7 @@ def apart_at(
     instead: Instead = NOTHING,
 ) -> tuple[Apart, Difference]:
     """A call that the model answers otherwise, as are the known ones up to it."""
-    lines = [Line(str(at), plain_model.act_text(noted.act), noted.outcome) for at, noted in enumerate(history)]
+    lines = lines_of(history)
     beside = Beside(history[:place], limits, instead=instead)
     difference = Difference(place, lines, lines[place], lines[place]._replace(outcome=answer), beside.run.world)
     difference.room_seen = beside.held.get(difference.at.pipe, 0) if difference.at and difference.at.pipe else 0
@@ -290,8 +300,12 @@ def is_of_room(reason: Reason | None) -> bool:
 
 def wants_room(found: Iterable[Apart], limits: Limits) -> bool:
     """Whether a call is answered otherwise since pipes have too little room, and there may be larger ones."""
-    may_be_larger = not isinstance(limits, ChosenLimits) and limits.capacity < ROOMY.capacity
-    return may_be_larger and any(is_of_room(it.reason) for it in found)
+    return may_be_larger(limits) and any(is_of_room(it.reason) for it in found)
+
+
+def may_be_larger(limits: Limits) -> bool:
+    """Whether the pipes of a system may have more room than those of a run of these limits."""
+    return not isinstance(limits, ChosenLimits) and limits.capacity < ROOMY.capacity
 
 
 def is_out_of_room(history: Sequence[Noted], limits: Limits, why: Why = reason_of) -> bool:
@@ -313,13 +327,79 @@ def possible(history: Sequence[Noted], limits: Limits, why: Why = reason_of) -> 
 
 
 def excused(
-    history: Sequence[Noted], limits: Limits, states_most: int, seconds: float, *whys: Why
+    history: Sequence[Noted], limits: Limits, states_most: int, seconds: float, *whys: Why, by_search: bool = True
 ) -> tuple[list[Noted], list[Apart]]:
     """An order of a history, and the calls in it that the model answers otherwise: each of them has a reason, in the
-    first of some ways to look for these in which that is so. They are none where no such order is found."""
+    first of some ways to look for these in which that is so. They are none where no such order is found. Where it is
+    not searched for by reasons, it is only told what follows from the order of the ends."""
     excuses = Excuses(history, states_most, seconds)
-    tries = (excuses.found(limits, why) for why in whys or (reason_of,))
+    look = excuses.found if by_search else excuses.found_by_ends
+    tries = (look(limits, why) for why in whys or (reason_of,))
     return next((it for it in tries if it[1]), (excuses.history, []))
+
+
+class Reasoning(Search):
+    """A search for an order in which some calls give what was noted, or something else in a state in which that has a
+    reason that is fdref's own. Which of the others would have one in a state is noted."""
+
+    def __init__(
+        self,
+        history: Sequence[Noted],
+        doubted: Collection[int],
+        limits: Limits,
+        why: Why,
+        states_most: int,
+        seconds: float,
+    ) -> None:
+        places = sorted(range(len(history)), key=lambda place: history[place].start)
+        told = without_answers(history, doubted)
+        super().__init__([told[place] for place in places], limits, states_most, seconds)
+        self.history = history
+        self.doubted = doubted
+        self.limits = limits
+        self.why = why
+        self.lines = lines_of(history)
+        self.places = {1 << number: place for number, place in enumerate(places)}
+        # what was looked at, by the state and the place of the call
+        self.known: dict[tuple[int, int], Difference | None] = {}
+
+    def begun(self, place: Place, at: int, call: Call) -> Iterator[tuple[Step, Place]]:
+        """A call that takes effect, or begins to wait."""
+        here = self.places[call.bit]
+        noted = self.history[here].outcome
+        came, _ = self.states.after(place.state, call.act)
+        # one that waits for ever is never excused here
+        differs = came is not None and came != noted and UNKNOWN not in noted
+        it = self.difference(place.state, here, came) if came is not None and differs else None
+        is_doubted = here in self.doubted
+        acts = [acts for where, acts in ways(it) if where == here] if it and is_doubted else []
+        if not is_doubted or not differs or is_waiting(came or "") or (it and not acts):
+            yield from super().begun(place, at, call)
+        for some in acts:
+            state = place.state
+            for act in some:
+                _, state = self.states.after(state, act)
+            begun = (*place.begun[:at], place.begun[at] + 1, *place.begun[at + 1 :])
+            yield Step(call.act, noted), Place(begun, place.bits | call.bit, state, place.taken)
+
+    def difference(self, state: int, here: int, came: str) -> Difference | None:
+        """How a call is answered otherwise in a state, if that has a reason that is fdref's own."""
+        key = state, here
+        if key not in self.known:
+            line = self.lines[here]
+            world = thawed(self.states.all[state], self.limits)
+            it = Difference(here, self.lines, line, line._replace(outcome=came), world)
+            it.has_same_room = isinstance(self.limits, ChosenLimits)
+            if it.at:
+                # a state does not have how it was opened; that is asked in the order that is found
+                it.at.is_opened_nonblock = it.at.nonblock
+            it.reason = self.why(it)
+            self.known[key] = it if it.reason and it.reason.who == OWN else None
+        return self.known[key]
+
+    def met(self) -> dict[int, Reason]:
+        """The calls that had a reason in a state, by their places, and one of these reasons."""
+        return {here: it.reason for (_, here), it in self.known.items() if it and it.reason}
 
 
 class Excuses:
@@ -333,12 +413,20 @@ class Excuses:
         self.orders: dict[tuple[type[World], frozenset[int], Limits], list[Noted]] = {}
 
     def found(self, limits: Limits, why: Why) -> tuple[list[Noted], list[Apart]]:
-        """The order, and these calls, or none; where pipes have too little room for larger pipes. The order of the ends
-        comes first, then one that explains what has no reason there, and last one in which a pwrite under append writes
-        at the end, as what follows from that has a reason in such an order alone."""
+        """The order, and these calls, or none; where pipes have too little room for larger pipes. In the order of the
+        ends a call that waits may keep its process from all that comes later: so the reasons are looked for in others,
+        too."""
+        placed, found = self.found_by_ends(limits, why)
+        is_short = not found and is_out_of_room(self.history, limits, why)
+        return (placed, found) if found else self.found_by_search(ROOMY if is_short else limits, why)
+
+    def found_by_ends(self, limits: Limits, why: Why) -> tuple[list[Noted], list[Apart]]:
+        """The same by what has a reason in the order of the ends. That comes first, then one that explains what has no
+        reason there, and last one in which a pwrite under append writes at the end, as what follows from that has a
+        reason in such an order alone."""
         found = list(differences(self.history, limits, why))
         if wants_room(found, limits):
-            return self.found(ROOMY, why)
+            return self.found_by_ends(ROOMY, why)
         if all(it.reason for it in found):
             return self.history, found
         doubted = frozenset(it.place for it in found if it.reason)
@@ -351,6 +439,32 @@ class Excuses:
             if found and all(it.reason for it in found):
                 return ordered, found
         return self.history, []
+
+    def found_by_search(self, limits: Limits, why: Why) -> tuple[list[Noted], list[Apart]]:
+        """The same, by reasons that are fdref's own, in an order that is searched for by them. At first no call has
+        one, and then those in which a search has met one. Together they are one search, as long as another one."""
+        states, until = self.states_most, time.monotonic() + self.seconds
+        doubted: frozenset[int] = frozenset()
+        is_short = False
+        for _ in range(ROUNDS):
+            search = Reasoning(self.history, doubted, limits, why, states, until - time.monotonic())
+            steps = None
+            with contextlib.suppress(TooLong):
+                steps = search.order()
+            # a call that waits goes on with others in between, or comes back after them
+            orders = (in_order(self.history, steps, is_of_begin) for is_of_begin in (False, True)) if steps else ()
+            for ordered in orders:
+                found = list(differences(ordered, limits, why))
+                if found and all(it.reason and it.reason.who == OWN for it in found) and not wants_room(found, limits):
+                    return ordered, found
+            met = search.met()
+            is_short = is_short or any(map(is_of_room, met.values()))
+            states -= len(search.seen)
+            if met.keys() <= doubted or states <= 0 or time.monotonic() > until:
+                break
+            doubted |= met.keys()
+        is_larger = is_short and may_be_larger(limits)
+        return self.found_by_search(ROOMY, why) if is_larger else (self.history, [])
 
     def order(self, world: type[World], doubted: frozenset[int], limits: Limits) -> list[Noted]:
         """The calls in an order that explains in a kind of world what is not doubted, or no calls where none does."""

@@ -46,7 +46,7 @@ calls that overlap a reason is told as `perhaps` where not each that is answered
 in the order in which they came back. Histories that differ in their times alone are searched once.
 
 A search is given up after --seconds or --states, and a history where its first search is. Where that finds no order
-there are up to 46 more, as with larger pipes and with parts of writes, and twice 20 seconds to make a part short.
+there are up to 56 more, as with larger pipes and with parts of writes, and twice 20 seconds to make a part short.
 
 After several histories the last line counts them. Exit status: 0 where all are explained, or have a reason that is
 fdref's own, 1 where one is not, 2 for wrong words and where HISTORY cannot be read, 3 where fdref could not be run or
@@ -258,7 +258,8 @@ class Orders:
         begun = [noted for noted in history if end is not None and noted.start <= end]
         if not begun or len(begun) == len(history):
             return None
-        placed, parted = apart.excused(begun, self.args.limits, self.args.states, self.args.seconds, *whys)
+        most = self.args.states, self.args.seconds
+        placed, parted = apart.excused(begun, self.args.limits, *most, *whys, by_search=False)
         departs = next((it for it in parted if it.reason and it.reason.who != OWN), None)
         if not departs:
             return None

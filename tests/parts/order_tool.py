@@ -435,6 +435,45 @@ OVERLAPPING_CHOICES = [
     (TWO, "10 20 p0 fstat 0 = pipe 0 1\n11 19 p1 write 1 x61 = 1", "pipe 1 0", STAT),
 ]
 
+# The same where the order of their ends tells nothing: a call that waits comes back before the one that makes it go on,
+# or a call has its reason only before one that came back sooner. Then such with answers that nothing explains.
+JOINED_TWO = f"{JOINED}2 3 p1 join = 1\n"
+READ_FIRST = f"{TWO}20 40 p0 read 0 1 = x61\n30 90 p1 write 1 x61 = 1\n"
+OPEN_FIRST = f"{JOINED_TWO}4 5 p0 mkfifo q = ok\n20 90 p0 open q r = 0\n30 40 p1 open q w = 0\n"
+LINKED = f"{JOINED_TWO}4 5 p0 open b w,creat = 0\n20 60 p0 link a b = error EEXIST\n25 30 p1 unlink b = ok\n"
+FILLED = f"{TWO}8 9 p0 setfl 1 -,nonblock = ok\n10 11 p0 write 1 61*4096 = 4096\n"
+FILLED += "20 60 p0 write 1 62*100 = error EAGAIN\n30 31 p1 read 0 4096 = 61*4096\n"
+SET = f"{JOINED}4 5 p0 open f rw,creat,nonblock = 0\n6 7 p0 fork = 1\n8 9 p1 attach = ok\n"
+SET += "20 60 p0 getfl 0 = 3\n25 30 p1 setfl 0 -,append = ok\n"
+WITHOUT_SPACE = f"{JOINED_TWO}20 60 p0 open f w,creat = error ENOSPC\n25 30 p1 open f w,creat = 0\n"
+PIECES = f"{TWO}10 11 p0 write 1 61*1024 = 1024\n20 90 p0 write 1 62*2000 = 2000\n30 31 p1 read 0 1024 = 61*1024\n"
+PIECES += "32 33 p1 read 0 1024 = 62*1024\n34 35 p1 fstat 0 = pipe 0 1\n95 96 p1 read 0 1024 = 62*976\n"
+IN_ANOTHER_ORDER = [
+    (f"{READ_FIRST}42 43 p0 fstat 0 = pipe 0 1\n", "pipe 0 0", STAT),
+    (f"{READ_FIRST}42 43 p0 pread 1 0 1 = error ESPIPE\n", "error EBADF", REFUSALS),
+    (f"{OPEN_FIRST}42 43 p1 write 0 x616263 = 3\n44 45 p1 fstat 0 = fifo 0 1\n", "fifo 3 1", STAT),
+    (LINKED, "error ENOENT", REFUSALS),
+    (FILLED, "100, where a pipe has room for 65,536 bytes", "room of a pipe (own; page of write)"),
+    (SET, "67", LEFT_OUT),
+    (WITHOUT_SPACE, "0", "no space in the file system (own; pages of open, mkfifo, link, rename and write)"),
+]
+IN_NO_ORDER = [
+    f"{READ_FIRST}42 43 p0 fstat 0 = pipe 0 1\n".replace("= x61", "= x62"),
+    f"{READ_FIRST}42 43 p0 fstat 0 = pipe 0 1\n44 45 p0 lseek 0 0 cur = 0\n",
+    f"{READ_FIRST}42 43 p0 fstat 0 = pipe 0 1\n50 - p0 read 0 1 = parked ?\n92 93 p1 write 1 x62 = 1\n",
+    f"{READ_FIRST}42 43 p0 pread 1 0 1 = error EINVAL\n",
+    f"{OPEN_FIRST}42 43 p1 write 0 x616263 = 3\n44 45 p1 fstat 0 = fifo 0 1\n95 96 p0 read 0 9 = x6162\n",
+    LINKED.replace("25 30 p1", "15 16 p1"),
+    LINKED.replace("25 30 p1", "65 66 p1").replace("EEXIST", "EMLINK"),
+    f"{FILLED}70 71 p1 read 0 100 = 62*100\n",
+    FILLED.replace("30 31 p1", "12 13 p1"),
+    SET.replace("25 30 p1", "15 16 p1"),
+    f"{WITHOUT_SPACE}70 71 p1 close 0 = error EBADF\n",
+    WITHOUT_SPACE.replace("p1 open f w,creat = 0", "p1 open f w,creat,excl = error EEXIST"),
+    WITHOUT_SPACE.replace("25 30 p1", "15 16 p1"),
+    PIECES.replace("62*976", "62*975"),
+]
+
 
 # Pipes whose writing end has the lower number: what is told of one, and histories with their status and what is told
 # last.
@@ -538,6 +577,13 @@ def reason_cases(program: str) -> Iterator[Case]:
     for before, calls, answer, reason in OVERLAPPING_CHOICES:
         end = f"fdref answers {answer}, in an order that explains the others\nreason: {reason}"
         yield f"choices at once: {calls}", partial(ends_with, program, f"{before}{calls}\n", 0, end)
+    for text, answer, reason in IN_ANOTHER_ORDER:
+        end = f"fdref answers {answer}, in an order that explains the others\nreason: {reason}"
+        yield f"choices in another order: {text}", partial(ends_with, program, text, 0, end)
+    end = f"fdref answers pipe 976 0, in an order that explains the others\nreason: {STAT}"
+    yield "while a write waits", partial(ends_with, program, PIECES, 0, end, "--pipe-capacity", "1024")
+    for text in IN_NO_ORDER:
+        yield f"choices in no order: {text}", partial(fails, program, text, 1, "no order explains it")
     yield "a pipe with its ends the other way round", partial(prints, program, TURNED, 0, TURNED_LINES)
     for text, status, end in TURNS:
         yield f"turned: {text}", partial(ends_with, program, text, status, end)
