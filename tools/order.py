@@ -91,7 +91,7 @@ from support.texts import several
 import apart
 from compare_limits import reason_or_limit
 from compare_reasons import APPENDED, OWN, told_reason
-from waits import Long
+from waits import Long, waits_for
 
 # What is told of a history that only larger pipes explain, and its reason.
 WHERE_ROOMY = f"where a pipe has room for {ROOMY.capacity:,} bytes"
@@ -387,11 +387,18 @@ def parse(words: Sequence[str]) -> argparse.Namespace:
     return parser.parse_args(words)
 
 
+def text_of(path: str) -> str:
+    """The text of a file, or that of the standard input."""
+    what = "the standard input" if path == "-" else path
+    with Long(waits_for(f"histories from {what}", 0), "order.py"):
+        return sys.stdin.read() if path == "-" else Path(path).read_text(encoding="utf-8")
+
+
 def main(words: Sequence[str]) -> int:
     """Answers for all histories: the exit status."""
     args = parse(words)
     try:
-        text = sys.stdin.read() if args.history == "-" else Path(args.history).read_text(encoding="utf-8")
+        text = text_of(args.history)
     except (OSError, UnicodeDecodeError) as fault:
         print(f"order.py: {fault}", file=sys.stderr)
         return WRONG_WORDS

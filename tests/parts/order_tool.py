@@ -3,6 +3,7 @@
 import contextlib
 import io
 import os
+import shlex
 import stat
 import sys
 import tempfile
@@ -1108,6 +1109,20 @@ def tells_bounds(program: str) -> None:
     require("so long (60)" in help_text and "states (1,000,000)" in help_text, help_text)
 
 
+def tells_what_it_waits_for(program: str) -> None:
+    """Where no history comes for long it is told from where one is waited for."""
+    with tempfile.TemporaryDirectory(prefix="fdref-") as folder:
+        file = Path(folder, "history")
+        file.write_text(GOOD)
+        # what takes a second is long here
+        code = "import functools, sys, order, waits\norder.Long = functools.partial(waits.Long, seconds=0.1)\n"
+        code += "sys.exit(order.main(sys.argv[1:]))"
+        words = ["env", f"PYTHONPATH={TOOLS}", sys.executable, "-c", code, "-", "--program", program]
+        ran = run(["sh", "-c", f"{{ sleep 3; cat {file}; }} | {shlex.join(words)}"])
+    same((0, GOOD_LINES), (ran.status, ran.stdout.decode()))
+    require(ran.stderr.decode().startswith("order.py: waits for histories from the standard input\n"), ran.said())
+
+
 def cases(program: str) -> Iterator[Case]:
     """What is printed, and each status."""
     totals = "histories 4 explained 3 unexplained 1 given up 0\n"
@@ -1132,6 +1147,7 @@ def cases(program: str) -> Iterator[Case]:
     yield from reason_cases(program)
     yield "no history", partial(says_of_nothing, program)
     yield "how long a search takes", partial(tells_bounds, program)
+    yield "what it waits for", partial(tells_what_it_waits_for, program)
     yield "given up after states", partial(prints, program, GOOD, 5, "given up after 2 states\n", "--states", "1")
     yield "wrong words", partial(fails, program, GOOD, 2, "unrecognized", "--no")
     yield "no program", partial(fails, "/no/program", GOOD, 3, "no program at /no/program")
