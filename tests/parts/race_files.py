@@ -122,6 +122,7 @@ BOTH_OPEN = "join\np0 open a rw,creat,append\np0 fork\np1 attach\n"
 BOTH_APPEND = "0 1 p0 join = 0\n2 3 p0 open a rw,creat,append = 0\n4 5 p0 fork = 1\n6 7 p1 attach = ok\n"
 APPENDS = ["10 30 p0 write 0 x62 = 1", "12 20 p1 pwrite 0 0 x6161 = 2"]
 FOUR = "15 16 p0 write 1 x61626364 = 4"
+READ_FIRST = ["20 40 p0 read 0 1 = x61", "30 90 p1 write 1 x61 = 1"]
 SHARES = "how reads of a pipe at once share its bytes (own) (page of read)"
 CHOICES = [
     (JOINS, JOINED, ["20 30 p0 open a r,trunc = 1", "21 31 p1 open b rw,creat = 0"], 0, FLAGS),
@@ -158,6 +159,11 @@ CHOICES = [
     # in the order in which they came back the pwrite comes too early to append
     (BOTH_OPEN, BOTH_APPEND, [*APPENDS, "40 41 p0 lseek 0 0 cur = 1", "42 43 p0 lseek 0 0 end = 3"], 0, APPEND),
     (BOTH_OPEN, BOTH_APPEND, [*APPENDS, "40 41 p0 lseek 0 0 cur = 1", "42 43 p0 lseek 0 0 end = 4"], 1, BARE),
+    # in the order in which they came back the read waits, and keeps its process from what comes later
+    (ENDS, SETUP, [*READ_FIRST, "42 43 p0 fstat 0 = pipe 0 1"], 0, STAT),
+    (ENDS, SETUP, [*READ_FIRST, "42 43 p0 pread 1 0 1 = error ESPIPE"], 0, REFUSALS),
+    (ENDS, SETUP, [*READ_FIRST, "42 43 p0 pread 1 0 1 = error EINVAL"], 1, BARE),
+    (ENDS, SETUP, ["20 40 p0 read 0 1 = x62", READ_FIRST[1], "42 43 p0 fstat 0 = pipe 0 1"], 1, BARE),
     # a limit of the system
     (JOINS, JOINED, ["20 30 p0 fork = error EAGAIN", "25 31 p1 open a r = 0"], 0, PROCESSES),
 ]
