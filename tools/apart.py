@@ -16,7 +16,8 @@ from support import plain_model
 from support.commands import ChosenLimits
 from support.histories import UNKNOWN, WAITS, Noted
 from support.ordering import ROOMY, By
-from support.plain_model import Act, Limits, Pipe, World
+from support.overdue import is_overdue
+from support.plain_model import Act, Description, Limits, Pipe, World
 from support.replaying import Differs, is_waiting, replayed
 from support.runs import Line, Settled, line_of
 from support.searching import FOREVER, Call, Place, Search, Step, TooLong
@@ -116,6 +117,8 @@ class Beside:
         self.appends: list[int] = []
         # how many bytes each pipe was seen to hold
         self.held: dict[Pipe, int] = {}
+        # the description that each call is made on, if it is a read or write
+        self.behind: list[Description | None] = []
         # the call in which each process waits, by its place
         self.waiting: dict[int, int] = {}
         for place, noted in enumerate(history):
@@ -123,10 +126,16 @@ class Beside:
             overdue = [who for who, at in self.waiting.items() if history[at].precedes(noted)]
             for who in overdue:
                 del self.waiting[who]
+            self.behind.append(self.description(noted))
             if place in instead:
                 self.take_instead(noted, instead[place])
             else:
                 self.take(noted)
+
+    def description(self, noted: Noted) -> Description | None:
+        """The description that a call is made on, if it is a read or write of a descriptor that is open."""
+        process = self.run.world.processes.get(noted.process)
+        return process.table.get(noted.act.fields[0]) if process and noted.act.word in ("read", "write") else None
 
     def take_instead(self, noted: Noted, acts: Iterable[Act]) -> None:
         """Lets acts take place instead of a call, which give what that gave."""
@@ -148,8 +157,7 @@ class Beside:
             self.answers.append(UNKNOWN)
             return
         seen = len(self.run.lines)
-        process = self.run.world.processes.get(noted.process)
-        at = process.table.get(noted.act.fields[0]) if process and noted.act.word == "write" else None
+        at = self.behind[-1] if noted.act.word == "write" else None
         self.see_append(noted.act)
         self.fillings.take(self.run, noted.act)
         if at and at.pipe and noted.outcome == str(len(noted.act.fields[1])):
@@ -200,16 +208,16 @@ def differences(history: Sequence[Noted], limits: Limits, why: Why = reason_of) 
     done, the model is given that instead, so that what comes after it is compared."""
     known: dict[int, bool] = {}
     instead: dict[int, Sequence[Act]] = {}
-    answers = Beside(history, limits).answers
+    beside = Beside(history, limits)
     for place in range(len(history)):
-        if not is_given(history[place], answers[place]):
+        if not is_given(history[place], beside.answers[place]):
             known[place] = False
-            it, difference = apart_at(history, place, answers[place], limits, known, why, instead)
+            it, difference = apart_at(history, place, beside, limits, known, why, instead)
             for at, acts in ways(difference) if it.reason is not APPENDED and not it.is_settled else ():
                 tried = Beside(history, limits, instead={**instead, at: acts})
                 if is_given(history[place], tried.answers[place]):
                     instead[at] = acts
-                    answers, it = tried.answers, it._replace(is_settled=True)
+                    beside, it = tried, it._replace(is_settled=True)
                     break
             known[place] = it.is_settled
             yield it._replace(instead=dict(instead))
@@ -218,15 +226,15 @@ def differences(history: Sequence[Noted], limits: Limits, why: Why = reason_of) 
 def apart_at(
     history: Sequence[Noted],
     place: int,
-    answer: str,
+    whole: Beside,
     limits: Limits,
     known: Known,
     why: Why = reason_of,
     instead: Instead = NOTHING,
 ) -> tuple[Apart, Difference]:
-    """A call that the model answers otherwise, as are the known ones up to it."""
+    """A call that the model, beside the whole history, answers otherwise, as are the known ones up to it."""
     lines = lines_of(history)
-    beside = Beside(history[:place], limits, instead=instead)
+    answer, beside = whole.answers[place], Beside(history[:place], limits, instead=instead)
     difference = Difference(place, lines, lines[place], lines[place]._replace(outcome=answer), beside.run.world)
     difference.room_seen = beside.held.get(difference.at.pipe, 0) if difference.at and difference.at.pipe else 0
     difference.has_same_room = isinstance(limits, ChosenLimits)
@@ -239,8 +247,10 @@ def apart_at(
     # what the fstat after such a pwrite tells has to follow from all of them
     if reason is None or (reason is APPENDED and follows_append(difference)):
         reason = APPENDED if is_by_append(history, place, limits, known, instead) else None
-    difference.reason = reason
-    return Apart(place, history[place], answer, limits, reason, difference.is_settled(), NOTHING), difference
+    # a pipe of one page has no room where that is filled to its end
+    page = difference.page if difference.has_same_room and limits.capacity == difference.page else None
+    difference.reason = None if is_overdue(history, place, whole.behind, page) else reason
+    return Apart(place, history[place], answer, limits, difference.reason, difference.is_settled(), NOTHING), difference
 
 
 def is_by_append(history: Sequence[Noted], place: int, limits: Limits, known: Known, instead: Instead) -> bool:

@@ -1079,6 +1079,50 @@ def capacity_cases(program: str) -> Iterator[Case]:
     yield "a pipe of 4,096 bytes, as is told", partial(ends_with, program, page, 0, f"7 {end}", *room)
 
 
+# Writes that wait though there is room for the rest in each pipe, as the reads tell: with the nearest that may wait, of
+# which one byte fewer is read, or that is not known to be read of it.
+SMALL_LOST = f"{TWO}20 - p0 write 1 61*600 = parked ?\n30 31 p1 read 0 88 = 61*88\n"
+HELD_LOST = f"{TWO}12 13 p0 write 1 61*500 = 500\n20 - p0 write 1 62*400 = parked ?\n30 31 p1 read 0 388 = 61*388\n"
+PAGE_LOST = f"{TWO}12 13 p0 write 1 61*8192 = 8192\n20 - p0 write 1 62*100 = parked ?\n30 31 p1 read 0 8191 = 61*8191\n"
+BOTH_LOST = f"{TWO}8 9 p0 fork = 2\n10 11 p2 attach = ok\n20 - p0 write 1 61*600 = parked ?\n"
+BOTH_LOST += "21 - p1 write 1 62*600 = parked ?\n30 31 p2 read 0 600 = 61*600\n"
+OTHER_READ = f"{TWO}12 13 p1 pipe = 2 3\n14 15 p1 write 3 61*600 = 600\n20 - p0 write 1 61*600 = parked ?\n"
+ONE_PAGE = PAGE_LOST.replace("8192", "4096").replace("8191", "4095")
+READ_AGAIN = f"{TWO}20 - p0 write 1 61*600 = parked ?\n30 31 p1 read 0 600 = "
+LOST = [
+    SMALL_LOST,
+    HELD_LOST,
+    BOTH_LOST,
+    f"{READ_AGAIN}61*600\n32 33 p1 exit = ok\n".replace("30 31", "8 9 p0 fork = 2\n10 11 p2 attach = ok\n30 31"),
+    f"{BOTH_LOST}32 33 p2 read 0 600 = 62*600\n",
+    f"{READ_AGAIN}61*600\n32 33 p1 read 0 600 = error EAGAIN\n".replace("20 -", "8 9 p1 setfl 0 -,nonblock = ok\n20 -"),
+    f"{TWO}20 - p0 write 1 61*2000 = parked ?\n30 31 p1 read 0 1024 = 61*1024\n40 41 p1 read 0 900 = 61*900\n",
+]
+MAY_WAIT = [
+    SMALL_LOST.replace("88", "87"),
+    HELD_LOST.replace("388", "387"),
+    BOTH_LOST.replace("read 0 600 = 61*600", "read 0 599 = 61*599"),
+    BOTH_LOST.replace("62*600", "61*600"),
+    f"{READ_AGAIN}?\n",
+    f"{OTHER_READ}30 31 p1 read 2 600 = 61*600\n",
+]
+
+
+def lost_cases(program: str) -> Iterator[Case]:
+    """What is told of writes that are not woken."""
+    woken, known = "page of write: it waits until there is room", ("--pipe-capacity", "4096")
+    for text in LOST:
+        yield f"a write not woken: {text}", partial(fails, program, text, 1, woken)
+    for text in MAY_WAIT:
+        yield f"a write that may wait: {text}", partial(ends_with, program, text, 0, f"reason: {ROOM}")
+    paged = "reason: room of a pipe that is counted in pages (own; page of write)"
+    yield "a write beside a page", partial(fails, program, PAGE_LOST, 1, woken, "--pipe-capacity", "8192")
+    yield "a write beside the end of one page", partial(ends_with, program, ONE_PAGE, 0, paged, *known)
+    emptied = ONE_PAGE.replace("20 -", "14 15 p1 read 0 4096 = 61*4096\n16 17 p0 write 1 61*300 = 300\n20 -")
+    emptied = emptied.replace("30 31 p1 read 0 4095 = 61*4095", "30 31 p1 read 0 299 = 61*299")
+    yield "a write beside a page that was empty", partial(fails, program, emptied, 1, woken, *known)
+
+
 def long_history(count: int = 10_000) -> str:
     """A history of many calls, of which few overlap: it takes seconds, where all pairs of them would take minutes."""
     calls = [f"{10 * at} {10 * at + 11} p{at % 2} pwrite 0 {at % 100} x61 = 1\n" for at in range(1, count)]
@@ -1137,6 +1181,7 @@ def cases(program: str) -> Iterator[Case]:
     both += "histories 2 explained 1 unexplained 0 given up 0 room of a pipe 1\n"
     yield "a larger pipe, counted", partial(prints, program, f"{ROOMY}\n{GOOD}", 0, both)
     yield from capacity_cases(program)
+    yield from lost_cases(program)
     yield from part_cases(program)
     wrong = ROOMY.replace("70 80 p0 write 1 61*600 = 600", "70 80 p0 read 0 9 = x")
     yield "a larger pipe, in vain", partial(fails, program, wrong, 1, "no order explains it")

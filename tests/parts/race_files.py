@@ -152,6 +152,8 @@ CHOICES = [
     (ENDS, SETUP, [FOUR, "20 40 p0 read 0 2 = x6163", "21 41 p1 read 0 2 = x6264"], 0, SHARES),
     (ENDS, SETUP, [FOUR, "20 40 p0 read 0 2 = x6163", "41 42 p1 read 0 2 = x6264"], 1, BARE),
     (ENDS, SETUP, [FOUR, "20 40 p0 read 0 2 = x6163", "21 41 p1 read 0 2 = x6265"], 1, BARE),
+    # a write that is not woken has nothing to do with room
+    (ENDS, SETUP, ["20 - p0 write 1 61*600 = parked ?", "30 31 p1 read 0 600 = 61*600"], 1, BARE),
     # a read that is not woken has nothing to do with appending
     (ENDS, SETUP, NOT_WOKEN, 1, BARE),
     (f"{ENDS}{APPENDING}", APPENDED, NOT_WOKEN, 1, BARE),
