@@ -16,7 +16,7 @@ from types import FrameType
 from typing import NoReturn
 from unittest import mock
 
-from parts.python_client import joined, raised_by, raises, stays
+from parts.python_client import BrokenOff, joined, raised_by, raises, stays
 from support.counting import Case, require, same
 from support.players import until_traced
 from support.serving import A_WHILE, SECONDS, Listener, Server, report
@@ -135,6 +135,32 @@ def forgets(program: str) -> None:
         process.forget()
         raises(ConnectionError, process.pipe)
         server.ended(report(1, 4))
+
+
+def breaks_off(program: str) -> None:
+    """A child that is forked while a call waits, and breaks it off, lets go of it; the call goes on at its parent."""
+    with Server(program, 2) as server, joined(server) as process:
+        same((0, 1), process.pipe())
+        with fdref.attach(server.path, process.fork()) as other:
+            parent = os.getpid()
+
+            def forks(place: int, moved: int) -> None:
+                child = os.fork()
+                if child == 0:
+                    raise BrokenOff
+                is_done(child)
+                other.write(1, b"hello")
+
+            process.on_wait = forks
+            try:
+                given = process.read(0, 9)
+            except BaseException as raised:
+                if os.getpid() != parent:
+                    os._exit(0 if isinstance(raised, BrokenOff) else 1)
+                raise
+            same(b"hello", given)
+        process.exit()
+        server.ended(report(2, 10, 5, 5))
 
 
 # ---- the handlers of signals
@@ -299,6 +325,7 @@ def cases(program: str) -> Iterator[Case]:
     yield "a child that leaves a block", partial(leaves_a_block, program)
     yield "a child that enters a block", partial(enters_a_block, program)
     yield "a child that forgets", partial(forgets, program)
+    yield "a child that breaks a call off", partial(breaks_off, program)
     for limit in (None, SECONDS):
         yield f"a handler that raises in calls with the limit {limit}", partial(interrupted, program, limit)
     yield "a handler that raises in joins", interrupted_joins

@@ -30,6 +30,9 @@ Kind = TypeVar("Kind", bound=Exception)
 # How many processes exit, one after another.
 EXITS = 20
 
+# How many calls are broken off, one after another.
+BREAKS = 8
+
 # At most so many bytes of a client are read at once.
 PIECE = 64
 
@@ -296,6 +299,127 @@ def broken_off(program: str) -> None:
             same("5 p0 exit = ok", until_traced(server, 6)[5])
             same(5, other.write(1, b"hello"))
         server.ended(report(2, 9, 5, 0))
+
+
+def is_late(process: fdref.Process) -> None:
+    """A read has no answer within its limit."""
+    process.timeout = A_WHILE
+    raises(fdref.NoAnswer, process.read, 0, 5)
+
+
+def is_left(process: fdref.Process) -> None:
+    """What is called while a read waits raises."""
+
+    def breaks(place: int, moved: int) -> NoReturn:
+        raise BrokenOff
+
+    process.on_wait = breaks
+    raises(BrokenOff, process.read, 0, 5)
+
+
+def has_no_answer(process: fdref.Process) -> None:
+    """What comes is no answer of a read."""
+    raises(ConnectionError, process.read, 0, 5)
+
+
+def exits_after(program: str, breaks: Callable[[fdref.Process], None]) -> None:
+    """An exit after a call that was broken off is recorded when it returns, too: a read finds no writer."""
+    with Server(program, 1 + BREAKS) as server, joined(server) as process, warnings.catch_warnings():
+        warnings.simplefilter("error")
+        process.pipe()
+        for _ in range(BREAKS):
+            reading, writing = process.pipe()
+            process.setfl(reading, os.O_NONBLOCK)
+            other = fdref.attach(server.path, process.fork())
+            process.close(writing)
+            breaks(other)
+            other.timeout = None
+            other.exit()
+            same(b"", process.read(reading, 1))
+            process.close(reading)
+        process.exit()
+        server.ended(report(1 + BREAKS, 4 + 9 * BREAKS))
+
+
+def broken_off_at_a_server_that_stays(outcome: str, breaks: Callable[[fdref.Process], None]) -> None:
+    """A server is told at once that a call was broken off, and an exit tells that the server stays all the same."""
+    listener = Listener()
+    listener.socket.listen(1)
+    with contextlib.closing(listener), contextlib.ExitStack() as stack:
+        is_told = threading.Event()
+        answering = threading.Thread(target=lambda: is_told_of_the_end(listener, stack, outcome, is_told), daemon=True)
+        answering.start()
+        process = fdref.join(listener.path, within=SECONDS)
+        breaks(process)
+        require(is_told.wait(SECONDS), "the server is not told")
+        for _ in range(2):
+            same([(ConnectionError, ENDED)], as_told([raised_by(process.close, 0)]))
+        same([STAYS.format(listener.path, A_WHILE)], warned_in_an_exit(process))
+        same([], warned_in_an_exit(process))
+        same([(ConnectionError, ENDED)], as_told([raised_by(process.close, 0)]))
+
+
+def is_told_of_the_end(listener: Listener, stack: contextlib.ExitStack, outcome: str, told: threading.Event) -> None:
+    """Takes a connection, answers a join and one call, and sees the end of the requests."""
+    taken = stack.enter_context(listener.socket.accept()[0])
+    for place, text in enumerate(("5", outcome), 3):
+        taken.recv(PIECE)
+        taken.sendall(answer_of(place, text))
+    if taken.recv(PIECE) == b"":
+        told.set()
+
+
+def warned_in_an_exit(process: fdref.Process) -> list[str]:
+    """What an exit warns of that may take a while."""
+    begun = time.monotonic()
+    with mock.patch("fdref.EXIT_WITHIN", A_WHILE), warnings.catch_warnings(record=True) as caught:
+        warnings.simplefilter("always")
+        process.exit()
+    took = time.monotonic() - begun
+    require(took < SECONDS, f"it took {took} seconds, and {A_WHILE} were given")
+    return [str(it.message) for it in caught]
+
+
+def exits_while_all_comes() -> None:
+    """An exit ends after its limit though a server that is none never stops to send."""
+    listener = Listener()
+    listener.socket.listen(1)
+
+    def pours() -> None:
+        taken, _ = listener.socket.accept()
+        with taken, contextlib.suppress(OSError):
+            taken.settimeout(SECONDS)
+            taken.sendall(answer_of(3, "5"))
+            while True:
+                taken.sendall(b"x" * PIECE)
+
+    with contextlib.closing(listener):
+        pouring = threading.Thread(target=pours, daemon=True)
+        pouring.start()
+        process = fdref.join(listener.path, within=SECONDS)
+        has_no_answer(process)
+        same([STAYS.format(listener.path, A_WHILE)], warned_in_an_exit(process))
+        pouring.join(SECONDS)
+        require(not pouring.is_alive(), "the connection stays open")
+
+
+def called_while_another_exits() -> None:
+    """A call while another thread exits is none, and ends no exit before its time."""
+    listener = Listener()
+    listener.socket.listen(1)
+    with contextlib.closing(listener), contextlib.ExitStack() as stack:
+        is_told = threading.Event()
+        answering = threading.Thread(target=lambda: is_told_of_the_end(listener, stack, "ok", is_told), daemon=True)
+        answering.start()
+        process = fdref.join(listener.path, within=SECONDS)
+        process.close(0)
+        warned: list[str] = []
+        leaving = threading.Thread(target=lambda: warned.extend(warned_in_an_exit(process)), daemon=True)
+        leaving.start()
+        require(is_told.wait(SECONDS), "the server is not told")
+        same([(ConnectionError, ENDED)], as_told([raised_by(process.close, 0)]))
+        leaving.join(SECONDS)
+        same([STAYS.format(listener.path, A_WHILE)], warned)
 
 
 # What is told where the connection is made and no answer comes, whoever listens.
@@ -649,6 +773,13 @@ def cases(program: str) -> Iterator[Case]:
     yield "an exit of the client", partial(exits, program)
     yield "a run that is full while the client waits", partial(full_while_waiting, program)
     yield "a call of the client that is broken off", partial(broken_off, program)
+    for name, breaks in (("late", is_late), ("left", is_left)):
+        yield f"an exit after a call that is {name}", partial(exits_after, program, breaks)
+    for outcome, breaks in (("parked 0", is_late), ("parked 0", is_left), ("7", has_no_answer)):
+        what = f"a call at a server that stays, {breaks.__name__}"
+        yield what, partial(broken_off_at_a_server_that_stays, outcome, breaks)
+    yield "an exit at what never stops to send", exits_while_all_comes
+    yield "a call while another thread exits", called_while_another_exits
     yield "a server that ends while the client waits", partial(lost_while_waiting, program)
     yield "an exit while another thread waits", partial(exited_by_another, program)
     yield "an exit while another thread waits, at a server that stays", exited_at_a_server_that_stays

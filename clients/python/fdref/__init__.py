@@ -38,7 +38,7 @@ What a call can end in:
   - ConnectionError, where the connection is lost, as a ConnectionResetError that names the server, or where what came
     is no answer of the call, or another thread has called `exit`. The process has ended then, as it has after a call
     that is broken off in any other way, by KeyboardInterrupt or by what `on_wait` or the handler of a signal raises,
-    which comes out of the call as it is;
+    which comes out of the call as it is. `exit` then waits until that is recorded;
   - `NoAnswer`, a TimeoutError, where no answer came within `process.timeout`. The process has ended then, too;
   - OverflowError, ValueError or TypeError, where an argument has no place in a request. Nothing was sent;
   - RuntimeError, where a call of the process is under way, in another thread, or where `on_wait` or the handler of a
@@ -74,6 +74,7 @@ docs/FORMATS.md has the bytes of requests, answers and traces, and docs/PROFILE.
 
 from __future__ import annotations
 
+import contextlib
 import errno
 import math
 import operator
@@ -249,6 +250,8 @@ class Process:
         self._entered_by = os.getpid()
         # whether `exit` or `forget` was called
         self._is_left = False
+        # whether a call was broken off; the connection is kept for `exit`
+        self._is_broken_off = False
         # held while a call is under way
         self._turn = threading.Lock()
         self._received = bytearray()
@@ -339,9 +342,9 @@ class Process:
 
     def exit(self) -> None:
         """Ends the process, as `os._exit` does: the server closes its descriptors. Its exit is recorded when this
-        returns, unless the connection was lost, or the server did not close it within EXIT_WITHIN seconds, or `timeout`
-        if that is less: that is told by a RuntimeWarning. After an `exit` or `forget` it does nothing. A call that
-        another thread waits in ends with a ConnectionError."""
+        returns, also after a call that was broken off, unless the connection was lost, or the server did not close it
+        within EXIT_WITHIN seconds, or `timeout` if that is less: that is told by a RuntimeWarning. After an `exit` or
+        `forget` it does nothing. A call that another thread waits in ends with a ConnectionError."""
         self._is_left = True
         if self._socket.fileno() < 0:
             return
@@ -366,11 +369,20 @@ class Process:
         _unless_lost(partial(self._socket.shutdown, socket.SHUT_WR))
         receive = partial(_unless_lost, partial(self._socket.recv, ANSWER_MOST))
         while self._move(select.POLLIN, receive, until):
-            pass
+            if time.monotonic() >= until:
+                raise NoAnswer("what comes has no end", self._path)
 
     def _close(self) -> None:
         """Closes the connection, by which the process ends, perhaps later."""
         self._socket.close()
+
+    def _break_off(self) -> None:
+        """Says that no request comes any more, so that the server ends the process, and keeps the connection: by that
+        `exit` finds out when it has."""
+        self._is_broken_off = True
+        # another thread may have closed it, or the server
+        with contextlib.suppress(OSError):
+            self._socket.shutdown(socket.SHUT_WR)
 
     # -- names
 
@@ -473,16 +485,21 @@ class Process:
 
     def _ask(self, request: bytes) -> Any:
         """Asks. A call that is broken off ends the process, since the next call would be given its answers."""
+        asked_by = os.getpid()
         if not self._turn.acquire(blocking=False):
             raise RuntimeError("a call of this process is under way; another thread needs a process of its own")
         try:
-            if self._socket.fileno() < 0:
+            if self._is_left or self._is_broken_off or self._socket.fileno() < 0:
                 raise ConnectionError(ENDED)
             return self._exchange(request)
         except (CallError, Refused):
             raise
         except BaseException:
-            self._close()
+            # a child that was forked meanwhile only lets go of what is its parent's
+            if os.getpid() == asked_by:
+                self._break_off()
+            else:
+                self._close()
             raise
         finally:
             self._turn.release()
@@ -534,9 +551,10 @@ class Process:
             return self._lose()
 
     def _lose(self) -> NoReturn:
-        """Tells who has ended the connection: an `exit` of another thread, or which server."""
+        """Tells who has ended the connection: an `exit` of another thread, which closes it then, or which server."""
         if self._is_left:
             raise ConnectionError(ENDED) from None
+        self._close()
         raise ConnectionResetError(errno.ECONNRESET, CLOSED, self._path) from None
 
     def _until(self) -> float:
