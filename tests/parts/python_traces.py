@@ -152,10 +152,10 @@ def header_of(trace: bytes) -> fdref.Header | None:
 
 
 def takes_errors(path: str) -> None:
-    """An OSError is written as its number."""
-    refused_fork = fdref.Record(0, "fork", (), OSError(errno.EAGAIN, "again"))
-    fdref.write_trace(path, [refused_fork, fdref.Record(0, "pipe", (), (0, 1))])
-    same(trace_of(["p0 fork = error EAGAIN", "p0 pipe = 0 1"]).hex(), Path(path).read_bytes().hex())
+    """An OSError is written as its number, and the other name of an error as that error."""
+    for error in (OSError(errno.EAGAIN, "again"), OSError(errno.EWOULDBLOCK, ""), fdref.Error("EWOULDBLOCK")):
+        fdref.write_trace(path, [fdref.Record(0, "fork", (), error), fdref.Record(0, "pipe", (), (0, 1))])
+        same(trace_of(["p0 fork = error EAGAIN", "p0 pipe = 0 1"]).hex(), Path(path).read_bytes().hex())
 
 
 def reads(path: str, trace: bytes) -> None:

@@ -132,6 +132,8 @@ ERRORS = (
     "EBADF EINVAL ESPIPE EFBIG EOVERFLOW ENOENT EEXIST EMLINK "
     "ENAMETOOLONG EMFILE ENFILE ENOSPC EAGAIN EPIPE ENXIO ESRCH"
 ).split()
+# What an emulator may call one of them.
+OTHER_NAMES = {"EWOULDBLOCK": "EAGAIN"}
 REFUSALS = {17: "NoMemory", 18: "RunFull", 19: "Waiting", 20: "NotHere", 21: "Foreign"}
 # Each of these in words.
 WHY_REFUSED = {
@@ -626,7 +628,7 @@ def _unless_lost(move: Callable[[], Any]) -> Any:
 
 @dataclass(frozen=True)
 class Error:
-    """An error number as the outcome of a record, by its name, such as "EBADF"."""
+    """An error number as the outcome of a record, by its name, such as "EBADF"; "EWOULDBLOCK" is taken as "EAGAIN"."""
 
     name: str
 
@@ -660,6 +662,7 @@ def _outcome(value: Any) -> bytes:
         return bytes([5, _place_in(KINDS, value.kind, "kind of file")]) + numbers
     if isinstance(value, Error | OSError):
         name = value.name if isinstance(value, Error) else errno.errorcode.get(value.errno or 0)
+        name = OTHER_NAMES.get(name or "", name)
         return bytes([6, _place_in(ERRORS, name, "error of the profile") + 1])
     if isinstance(value, Parked | Part):
         return (b"\x07" if isinstance(value, Parked) else b"\x08") + _number(value.moved, 4)
