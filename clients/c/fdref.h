@@ -112,8 +112,8 @@ void fdref_answer_within(struct fdref *p, unsigned seconds);
 
 /* Ends a process, as _exit does, and frees it. Its exit is recorded when this gives 0, and it waits for that as long as
    fdref_answer_within allows. It gives ETIMEDOUT where that limit passed before the server closed the connection, which
-   then records the exit later, and ECONNRESET where the connection was lost. NULL is no process, and gives 0. It does
-   not change errno. */
+   then records the exit later, and ECONNRESET where the connection was lost or given up, and the exit is perhaps not
+   recorded yet. NULL is no process, and gives 0. It does not change errno. */
 int fdref_exit(struct fdref *p);
 
 /* Frees a process in a child made by fork; the connection stays its parent's. A child that does not do this keeps the
@@ -501,6 +501,9 @@ struct fdref_act fdref_act_rename(const char *old_name, const char *new_name)
     return fdref_act_named(FDREF_RENAME, old_name, new_name, 0);
 }
 
+/* The kind of an outcome with flags that no trace holds. */
+#define FDREF_NO_FLAGS (-1)
+
 /* `number` is also how many bytes have moved. */
 static struct fdref_outcome fdref_outcome_of(int kind, uint64_t number)
 {
@@ -552,7 +555,7 @@ struct fdref_outcome fdref_result_data(const void *buffer, ssize_t result)
 struct fdref_outcome fdref_result_flags(int result)
 {
     int byte = result < 0 ? 0 : fdref_flags_byte(result);
-    return result < 0 ? fdref_error(errno) : fdref_outcome_of(byte < 0 ? 0 : FDREF_NUMBER, (uint64_t)byte);
+    return result < 0 ? fdref_error(errno) : fdref_outcome_of(byte < 0 ? FDREF_NO_FLAGS : FDREF_NUMBER, (uint64_t)byte);
 }
 
 /* ---- frames, written */
@@ -1050,6 +1053,8 @@ void fdref_forget(struct fdref *p)
 
 ssize_t fdref_finish(struct fdref *p)
 {
+    if (p->socket < 0)
+        return (ssize_t)fdref_refuse(p, FDREF_LOST, ENOTCONN);
     return (ssize_t)(p->is_parked ? fdref_hear(p) : fdref_refuse(p, FDREF_UNSENT, EINVAL));
 }
 
@@ -1255,12 +1260,14 @@ int fdref_record(struct fdref_trace *trace, int64_t process, struct fdref_act ac
         fdref_trace_flush(trace);
     if (trace->fault != 0)
         return fdref_trace_result(trace->fault);
-    struct fdref_payload record = {trace->frames + trace->size + 4, 0, 0, "a process"};
+    int is_astray = act.kind == FDREF_CLOSE_RUN && process != FDREF_HOUSE;
+    struct fdref_payload record = {trace->frames + trace->size + 4, 0, 0, is_astray ? "a close-run" : "a process"};
     char result[64] = "an outcome";
+    if (outcome.kind == FDREF_NO_FLAGS)
+        snprintf(result, sizeof result, "an outcome with flags");
     if (outcome.kind == FDREF_ERROR && fdref_error_byte(outcome.error) == 0)
         snprintf(result, sizeof result, "the error %d (%.36s)", outcome.error, strerror(outcome.error));
-    fdref_need(&record, process >= 0 && process <= FDREF_HOUSE, EINVAL);
-    fdref_need(&record, process == FDREF_HOUSE || act.kind != FDREF_CLOSE_RUN, EINVAL);
+    fdref_need(&record, process >= 0 && process <= FDREF_HOUSE && !is_astray, EINVAL);
     fdref_put(&record, (uint64_t)process, 4);
     fdref_put_next(&record, "an act");
     fdref_put_act(&record, &act);
@@ -1270,7 +1277,7 @@ int fdref_record(struct fdref_trace *trace, int64_t process, struct fdref_act ac
     if (record.fault == 0)
         trace->records++;
     else
-        fdref_tell(trace, record.what, "that no trace holds");
+        fdref_tell(trace, record.what, is_astray ? "of another process than FDREF_HOUSE" : "that no trace holds");
     trace->size += record.fault == 0 ? fdref_end_frame(&record) : 0;
     return fdref_trace_result(trace->fault);
 }

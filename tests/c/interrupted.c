@@ -99,6 +99,7 @@ static void reads(struct fdref *p)
     begin();
     CHECK(fdref_read(p, ends[0], &byte, 1) == -1 && errno == ETIMEDOUT && fdref_refusal(p) == FDREF_LOST);
     IN_TIME();
+    CHECK(fdref_finish(p) == -1 && errno == ENOTCONN && fdref_refusal(p) == FDREF_LOST);
     CHECK(fdref_exit(p) == ECONNRESET);
 }
 

@@ -110,17 +110,16 @@ static void large(struct fdref_trace *to, const char *path)
 
 /* A record with a fault is refused, and everything after it; what was recorded before is written. What it was is
    told. */
-static void refuses(const char *path, int64_t process, struct fdref_act act, struct fdref_outcome outcome, int number,
-                    const char *what)
+static void refuses_as(const char *path, int64_t process, struct fdref_act act, struct fdref_outcome outcome,
+                       int number, const char *told)
 {
     struct fdref_trace *to = fdref_trace_open(path);
-    char head[60], told[120];
+    char head[60];
     FILE *file;
     CHECK(to != NULL);
     CHECK(fdref_record(to, 0, fdref_act_join(), fdref_number(0)) == 0 && fdref_trace_fault(to) == NULL);
     CHECK(fdref_record(to, process, act, outcome) == -1 && errno == number);
     CHECK(fdref_record(to, 0, fdref_act_exit(), fdref_done()) == -1 && errno == number);
-    snprintf(told, sizeof told, "record 1: %s that no trace holds", what);
     CHECK(strcmp(fdref_trace_fault(to), told) == 0);
     CHECK(fdref_trace_flush(to) == -1 && errno == number);
     CHECK(fdref_trace_close(to) == -1 && errno == number);
@@ -128,6 +127,14 @@ static void refuses(const char *path, int64_t process, struct fdref_act act, str
     CHECK(file && fread(head, 1, sizeof head, file) == 42);
     if (file)
         fclose(file);
+}
+
+static void refuses(const char *path, int64_t process, struct fdref_act act, struct fdref_outcome outcome, int number,
+                    const char *what)
+{
+    char told[120];
+    snprintf(told, sizeof told, "record 1: %s that no trace holds", what);
+    refuses_as(path, process, act, outcome, number, told);
 }
 
 /* No trace says this of its run: a file is neither made nor emptied. */
@@ -169,7 +176,8 @@ static void faults(const char *path)
     name[FDREF_NAME_MOST + 1] = 0;
     refuses(path, -1, fdref_act_exit(), fdref_done(), EINVAL, "a process");
     refuses(path, FDREF_HOUSE + 1, fdref_act_exit(), fdref_done(), EINVAL, "a process");
-    refuses(path, 0, fdref_act_close_run(), fdref_done(), EINVAL, "a process");
+    refuses_as(path, 0, fdref_act_close_run(), fdref_done(), EINVAL,
+               "record 1: a close-run of another process than FDREF_HOUSE");
     refuses(path, 0, fdref_act_mkfifo(name), fdref_done(), ENAMETOOLONG, "a name");
     refuses(path, 0, fdref_act_mkfifo(NULL), fdref_done(), EINVAL, "a name");
     refuses(path, 0, fdref_act_write(0, bytes, FDREF_DATA_MOST + 1), fdref_number(0), EINVAL, "data");
@@ -179,7 +187,7 @@ static void faults(const char *path)
             "an outcome");
     refuses(path, 0, fdref_act_open("a", O_RDWR | O_SYNC), fdref_number(0), EINVAL, "flags");
     refuses(path, 0, fdref_act_setfl(0, O_SYNC), fdref_done(), EINVAL, "flags");
-    refuses(path, 0, fdref_act_getfl(0), fdref_result_flags(O_RDWR | O_SYNC), EINVAL, "an outcome");
+    refuses(path, 0, fdref_act_getfl(0), fdref_result_flags(O_RDWR | O_SYNC), EINVAL, "an outcome with flags");
     refuses(path, 0, fdref_act_lseek(0, 0, 9), fdref_number(0), EINVAL, "a base of an offset");
     refuses(path, 0, fdref_act_rename("a", name), fdref_done(), ENAMETOOLONG, "a name");
     refuses(path, 0, fdref_act_pipe(), fdref_descriptors(-1, 0), EINVAL, "an outcome");
