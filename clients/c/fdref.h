@@ -87,8 +87,8 @@ struct fdref;
    64 processes already, or that of a refusal, or what kept it from connecting, as ECONNREFUSED of a socket that a
    server has left and at which nobody listens; or it is ETIMEDOUT where the connection was made and no answer came
    within FDREF_FIRST_ANSWER seconds: the server has as many connections as its --sessions says, and answers no other,
-   or has no descriptors for one more, or it is no fdref. fdref_no_process has that in words. A connection that was made
-   is one of the sessions of the server, also where the run takes no process. */
+   or has no descriptors for one more, or is late, or it is no fdref. fdref_no_process has that in words. A connection
+   that was made is one of the sessions of the server, also where the run takes no process. */
 struct fdref *fdref_join(const char *path);
 
 /* The same; a server that is only starting is waited for, at most so many seconds, and its answer no longer than that
@@ -100,9 +100,9 @@ struct fdref *fdref_attach(const char *path, pid_t child);
 struct fdref *fdref_attach_within(const char *path, pid_t child, unsigned seconds);
 
 /* What to tell where one of these gave NULL, by its errno: "no answer: all sessions are taken, the server can take no
-   further connection, or no fdref listens there" of ETIMEDOUT, "the server ended, or had no memory, descriptor or
-   thread for this process" of ECONNRESET, of EAGAIN, EDQUOT and ESRCH that the run has as many processes as it may, no record for
-   one more, or no such child, and of another what strerror has. */
+   further connection or is late, or no fdref listens there" of ETIMEDOUT, "the server ended, or had no memory,
+   descriptor or thread for this process" of ECONNRESET, of EAGAIN, EDQUOT and ESRCH that the run has as many processes
+   as it may, no record for one more, or no such child, and of another what strerror has. */
 const char *fdref_no_process(int number);
 
 /* Limits how many seconds may pass in which nothing comes of an answer that is waited for, or in which the server takes
@@ -1014,8 +1014,8 @@ const char *fdref_no_process(int number)
     switch (number) {
     case ECONNRESET: return "the server ended, or had no memory, descriptor or thread for this process";
     case ETIMEDOUT:
-        return "no answer: all sessions are taken, the server can take no further connection, or no fdref listens "
-               "there";
+        return "no answer: all sessions are taken, the server can take no further connection or is late, or no fdref "
+               "listens there";
     case EAGAIN: return "the run has as many processes as it may";
     case EDQUOT: return "the run has no record free for this process";
     case ESRCH: return "there is no child of this number to be attached";

@@ -64,8 +64,8 @@ static void names(void)
 {
     CHECK(strcmp(fdref_error_name(EBADF), "EBADF") == 0 && strcmp(fdref_error_name(ESRCH), "ESRCH") == 0);
     CHECK(strcmp(fdref_error_name(EDQUOT), "RunFull") == 0 && strcmp(fdref_error_name(ESTALE), "Foreign") == 0);
-    CHECK(strcmp(fdref_no_process(ETIMEDOUT), "no answer: all sessions are taken, the server can take no further connection, "
-                                              "or no fdref listens there") == 0);
+    CHECK(strcmp(fdref_no_process(ETIMEDOUT), "no answer: all sessions are taken, the server can take no further connection "
+                                              "or is late, or no fdref listens there") == 0);
     CHECK(strcmp(fdref_no_process(ECONNRESET), "the server ended, or had no memory, descriptor or thread for this process") == 0);
     CHECK(strcmp(fdref_no_process(EAGAIN), "the run has as many processes as it may") == 0);
     CHECK(strcmp(fdref_no_process(EDQUOT), "the run has no record free for this process") == 0);

@@ -421,7 +421,10 @@ def server_is_gone(program: str, build: Build, odd: int) -> None:
 
 
 # What a driver tells of each process that has no place.
-NO_PLACE = b"no answer: all sessions are taken, the server can take no further connection, or no fdref listens there\n"
+NO_PLACE = (
+    b"no answer: all sessions are taken, the server can take no further connection or is late, or no fdref listens "
+    b"there\n"
+)
 
 
 def without_a_place(program: str, build: Build, odd: int) -> None:

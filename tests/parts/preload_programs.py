@@ -503,8 +503,8 @@ def is_without_a_place(program: str, library: Library) -> None:
             parent = pool.submit(run, [*asked, library.program("preload_forks")], seconds=3 * SECONDS)
             late = pool.submit(run, [*asked_other, library.program("preload_numbers"), "mixed"], seconds=3 * SECONDS)
             told = (
-                "no answer: all sessions are taken, the server can take no further connection, or no fdref listens "
-                "there\n"
+                "no answer: all sessions are taken, the server can take no further connection or is late, or no "
+                "fdref listens there\n"
             )
             same(Ran(NO_ANSWER, b"", f"fdref: the child cannot be attached: {told}".encode()), parent.result())
             same(Ran(NO_ANSWER, b"", f"fdref: {other.path}: {told}".encode()), late.result())

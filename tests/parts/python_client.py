@@ -423,7 +423,10 @@ def called_while_another_exits() -> None:
 
 
 # What is told where the connection is made and no answer comes, whoever listens.
-NO_PLACE = "no answer: all sessions are taken, the server can take no further connection, or no fdref listens there"
+NO_PLACE = (
+    "no answer: all sessions are taken, the server can take no further connection or is late, or no fdref listens "
+    "there"
+)
 
 
 def without_a_place(program: str) -> None:

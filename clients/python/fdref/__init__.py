@@ -185,10 +185,10 @@ class NoAnswer(TimeoutError):
 
 class NoPlace(NoAnswer):
     """The connection was made and no first answer came: the server serves as many processes as it was told to, has no
-    descriptors for one more, or is no fdref."""
+    descriptors for one more, is late, or is no fdref."""
 
     def __init__(self, path: str) -> None:
-        why = "all sessions are taken, the server can take no further connection, or no fdref listens there"
+        why = "all sessions are taken, the server can take no further connection or is late, or no fdref listens there"
         super().__init__(f"no answer: {why}", path)
 
 
