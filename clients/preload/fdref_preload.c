@@ -290,7 +290,7 @@ static int64_t gone_to_lowest(const struct going *it, int64_t given)
         const void *outer = go_in(&next); \
         const struct erring erring = begin_erring(!is_behind); \
         given = call; \
-        end_erring(&erring, name, (int64_t)given); \
+        end_erring(&erring, name, (int64_t)given, 0); \
         within = outer; \
     } while (0)
 #define WITHIN(given, call) WITHIN_OF(__func__, given, call)

@@ -820,6 +820,15 @@ static int run_in(const struct program *program, char *const list[], char *const
     return done;
 }
 
+/* Notes natively that an exec which has come back, and so has failed, gives something else than -1. */
+static void check_failed_exec(const char *name, int given)
+{
+    char text[60];
+    snprintf(text, sizeof text, "has failed, and has given %d, where -1 is due", given);
+    if (given != -1)
+        note_wrong(name, text);
+}
+
 /* A native exec has failed. Where the kernel goes on with the program that is noted by it. */
 static void run_otherwise(const struct program *program, char *const list[], char **with)
 {
@@ -838,7 +847,7 @@ static void run_otherwise(const struct program *program, char *const list[], cha
 static int run(struct program program, char *const list[], char *const env[], int is_own)
 {
     char handed[HANDED_MOST], **with;
-    int error;
+    int error, given;
     prepare();
     if (is_own)
         return run_in(&program, list, env);
@@ -852,8 +861,9 @@ static int run(struct program program, char *const list[], char *const env[], in
         hand_files(0);
     else if (how == ASKED)
         leave_out("program", program.what, program.path);
-    run_in(&program, list, with ? with : env);
+    given = run_in(&program, list, with ? with : env);
     error = errno;
+    check_failed_exec(program.what, given);
     if (with && is_watching())
         run_otherwise(&program, list, with);
     if (with)

@@ -117,6 +117,50 @@ static void check_gone_on(const struct ending *it, const char *name, int64_t giv
     errno = error;
 }
 
+/* ---- the number that a call gives
+
+   A call that fails gives -1, and none gives a number below that, but for an offset in what is no file of fdref, a group
+   of processes, what a device answers, and output by a format that fails. Many give 0 alone where they do not fail. */
+
+/* Whether a function has one of these names, which end with NULL, beside what tells its version or its width. */
+static int is_among(const char *name, const char *const *names)
+{
+    size_t size = 0;
+    name += strspn(name, "_");
+    for (; *names; names++) {
+        size = strlen(*names);
+        if (strncmp(name, *names, size) == 0 && (name[size] == 0 || strcmp(name + size, "64") == 0))
+            break;
+    }
+    return *names != NULL;
+}
+
+/* Whether a function may give a number below -1. What its descriptor leads to is known where it has a line. */
+static int may_be_below(const char *name, int has_line)
+{
+    static const char *const formats[] = {"dprintf", "vdprintf", "dprintf_chk", "vdprintf_chk", NULL};
+    static const char *const without_line[] = {"ioctl", "lseek", "fcntl", NULL};
+    return is_among(name, formats) || (!has_line && is_among(name, without_line));
+}
+
+/* Notes a native call that has given what it may not. */
+static void check_number(const char *name, int64_t given, int has_line)
+{
+    static const char *const zeros[] = {
+        "close", "close_range", "pipe", "pipe2", "ftruncate", "truncate", "mkfifo", "mkfifoat", "link", "linkat",
+        "unlink", "unlinkat", "remove", "rename", "renameat", "renameat2", "stat", "lstat", "fstat", "fstatat",
+        "xstat", "lxstat", "fxstat", "fxstatat", "statx", "access", "faccessat", "fsync", "fdatasync", "waitid", NULL,
+    };
+    char text[100];
+    if (given < -1 && !may_be_below(name, has_line)) {
+        snprintf(text, sizeof text, "has given %lld, and no call gives a number below -1", (long long)given);
+        note_wrong(name, text);
+    } else if (given > 0 && is_among(name, zeros)) {
+        snprintf(text, sizeof text, "has given %lld, and 0 is due where it does not fail", (long long)given);
+        note_wrong(name, text);
+    }
+}
+
 /* ---- errno
 
    No function may set it to 0, and one that fails has to set it. So a native call finds a number in it that no function
@@ -146,17 +190,19 @@ static struct erring begin_erring(int is_own)
     return it;
 }
 
-static int64_t end_erring(const struct erring *it, const char *name, int64_t given)
+static int64_t end_erring(const struct erring *it, const char *name, int64_t given, int has_line)
 {
     int error = errno, is_set = error != NOT_SET;
     if (it->is_known && !is_set)
         error = it->before;
+    if (it->is_known)
+        check_number(name, given, has_line);
     errno = error;
     if (!it->is_known || it->runs != runs)
         return given;
     if (is_set && error == 0)
         note_wrong(name, "has set errno to 0, as no function may");
-    else if (!is_set && given < 0)
+    else if (!is_set && (given == -1 || (given < 0 && !may_be_below(name, has_line))))
         note_wrong(name, "has failed, and has not set errno");
     else if (is_set && given >= 0 && strcmp(name, "isatty") != 0)
         notes("errno", name, NULL);
@@ -227,7 +273,7 @@ static void after_call(const struct masked *before, const char *name, int64_t gi
 {
     int error;
     sigset_t now;
-    end_erring(&before->erring, name, given);
+    end_erring(&before->erring, name, given, 1);
     error = errno;
     ending = before->outer;
     if (before->own)
@@ -287,7 +333,7 @@ static int64_t looked_at_mask(const char *name, int64_t value)
 {
     int error;
     sigset_t now;
-    end_erring(&masked_behind.erring, name, value);
+    end_erring(&masked_behind.erring, name, value, 1);
     error = errno;
     if (masked_behind.is_known && masked_behind.runs == runs && pthread_sigmask(SIG_BLOCK, NULL, &now) == 0
         && !are_same(&masked_behind.signals, &now))

@@ -585,6 +585,42 @@ static void tell_errors(void)
     printf(" %d %d\n", truncate("b", 1), errno);
 }
 
+/* Each call fails. */
+static void fail_each(void)
+{
+    char *words[] = {(char[]){"none"}, NULL};
+    write(ends[0], "x", 1);
+    lseek(ends[0], 0, SEEK_CUR);
+    fcntl(20, F_GETFL);
+    close(20);
+    rename("none", "a");
+    waitpid(-1, NULL, 0);
+    execv("./none", words);
+}
+
+/* None does. */
+static void do_each(void)
+{
+    struct stat told;
+    int more[2], fd = open("a", O_RDWR | O_CREAT, 0600);
+    ftruncate(fd, 3);
+    fstat(fd, &told);
+    rename("a", "b");
+    fcntl(fd, F_SETFL, O_APPEND);
+    fcntl(fd, F_SETFD, FD_CLOEXEC);
+    pipe(more);
+    close(fd);
+}
+
+/* A group of processes is a number below -1, and so may the offset be in what is no file of fdref. */
+static void go_below(void)
+{
+    int fd = open("/proc/self/mem", O_RDONLY);
+    fcntl(fd, F_SETOWN, -getpgrp());
+    if (fcntl(fd, F_GETOWN) != -getpgrp() || lseek(fd, -8192, SEEK_SET) != -8192)
+        exit(1);
+}
+
 /* The flags are not asked for after that, and no call goes by them. */
 static void set_flags(void)
 {
@@ -649,6 +685,14 @@ int main(int count, char **words)
         {"end-lost", seek_astray},
         {"errno-zeroed", tell_errors},  {"errno-set", tell_errors},
         {"errno-kept", tell_errors},
+        {"minus-write", fail_each},     {"minus-lseek", fail_each},
+        {"minus-fcntl", fail_each},     {"minus-close", fail_each},
+        {"minus-rename", fail_each},    {"minus-waitpid", fail_each},
+        {"zero-execv", fail_each},
+        {"seven-close", do_each},       {"seven-pipe", do_each},
+        {"seven-ftruncate", do_each},   {"seven-rename", do_each},
+        {"seven-fstat", do_each},       {"seven-fcntl", do_each},
+        {"below", go_below},
         {"cloexec-exec", run_with_flags}, {"asks", ask_flags},
         {"exec-keeps", run_with_flags}, {"exec-closes", run_with_flags},
         {"ino-apart", ask_files},       {"ino-same", ask_files},

@@ -72,10 +72,14 @@
    errno-zeroed    lseek sets errno to 0
    errno-set       lseek sets errno to ENOTTY
    errno-kept      truncate fails, and does not set errno
+   minus-NAME      write, lseek, fcntl, close, rename or waitpid gives its error below 0 where it fails
+   seven-NAME      close, pipe, ftruncate, rename or fstat gives 7 where it does not fail
+   zero-execv      execv gives 0 where it fails
 
-   One is right:
+   Two are right:
 
-   set-one         F_SETFL and F_SETFD give 1 */
+   set-one         F_SETFL and F_SETFD give 1
+   seven-fcntl     the same of 7 */
 
 #define _GNU_SOURCE
 
@@ -105,6 +109,15 @@ static int begins_wrong(const char *how)
 {
     const char *wrong = getenv("WRONG");
     return wrong && strncmp(wrong, how, strlen(how)) == 0;
+}
+
+/* What a function of a name gives where the kernel has given this to it. */
+static long given_by(const char *name, long done)
+{
+    const char *wrong = getenv("WRONG");
+    if (done < 0 && begins_wrong("minus-") && strcmp(wrong + 6, name) == 0)
+        return -errno;
+    return done == 0 && begins_wrong("seven-") && strcmp(wrong + 6, name) == 0 ? 7 : done;
 }
 
 ssize_t read(int fd, void *to, size_t count)
@@ -156,7 +169,9 @@ int fcntl(int fd, int command, ...)
         return 0;
     if (command == F_GETFL && is_set && is_wrong("setfl-mode"))
         return (int)syscall(SYS_fcntl, fd, command, argument) | O_RDWR;
-    return (int)syscall(SYS_fcntl, fd, command, argument + (command == F_DUPFD && is_wrong("dupfd-high")));
+    if (command == F_DUPFD && is_wrong("dupfd-high"))
+        argument++;
+    return (int)given_by("fcntl", syscall(SYS_fcntl, fd, command, argument));
 }
 
 int sigaction(int number, const struct sigaction *to, struct sigaction *was)
@@ -227,7 +242,7 @@ ssize_t write(int fd, const void *data, size_t count)
     }
     if (is_wrong("pipe-blocked"))
         block(SIG_BLOCK);
-    return done;
+    return given_by("write", done);
 }
 
 /* What a wait tells where the kernel has told a child. */
@@ -274,7 +289,7 @@ pid_t waitpid(pid_t which, int *status, int options)
         errno = EINTR;
         return -1;
     }
-    return told_for(done);
+    return told_for(given_by("waitpid", done));
 }
 
 pid_t fork(void)
@@ -312,6 +327,12 @@ int execve(const char *path, char *const list[], char *const env[])
     return (int)syscall(SYS_execve, path, list, env);
 }
 
+int execv(const char *path, char *const list[])
+{
+    int done = execve(path, list, environ);
+    return is_wrong("zero-execv") ? 0 : done;
+}
+
 int execvp(const char *path, char *const list[])
 {
     char *one[2] = {list[0], NULL};
@@ -338,7 +359,14 @@ off_t lseek(int fd, off_t offset, int whence)
     off_t done = (off_t)syscall(SYS_lseek, fd, (long)offset, whence);
     if (is_wrong("errno-zeroed") || is_wrong("errno-set"))
         errno = is_wrong("errno-set") ? ENOTTY : 0;
-    return done;
+    return (off_t)given_by("lseek", done);
+}
+
+int ftruncate(int fd, off_t length) { return (int)given_by("ftruncate", syscall(SYS_ftruncate, fd, (long)length)); }
+
+int rename(const char *name, const char *new_name)
+{
+    return (int)given_by("rename", syscall(SYS_renameat2, AT_FDCWD, name, AT_FDCWD, new_name, 0));
 }
 
 int truncate(const char *name, off_t length)
@@ -349,7 +377,7 @@ int truncate(const char *name, off_t length)
     return done;
 }
 
-int close(int fd) { return is_wrong("close-kept") ? 0 : (int)syscall(SYS_close, fd); }
+int close(int fd) { return is_wrong("close-kept") ? 0 : (int)given_by("close", syscall(SYS_close, fd)); }
 
 int dup2(int fd, int to)
 {
@@ -388,7 +416,7 @@ int pipe(int ends[2])
     int made[2], done = (int)syscall(SYS_pipe2, made, 0), is_turned = is_wrong("pipe-turned");
     ends[0] = made[is_turned];
     ends[1] = made[!is_turned];
-    return done;
+    return (int)given_by("pipe", done);
 }
 
 int dup(int fd)
@@ -413,7 +441,7 @@ int fstat(int fd, struct stat *to)
     done = next(fd, to);
     if (done == 0 && (is_wrong("ino-apart") || is_wrong("ino-same")))
         to->st_ino = is_wrong("ino-same") ? 1 : to->st_ino + (ino_t)fd;
-    return done;
+    return (int)given_by("fstat", done);
 }
 
 int stat(const char *name, struct stat *to)

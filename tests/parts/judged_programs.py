@@ -1,5 +1,6 @@
 """Programs of tests/c that are judged by tools/judge.py: what it says of each, and that nothing is left."""
 
+import errno
 import fcntl
 import os
 import platform
@@ -829,6 +830,22 @@ WRONGED = {
     "end-lost": "system: p0 lseek 5 -1 end = error EINVAL",
     "errno-zeroed": f"{OF_SYSTEM}p0 lseek: has set errno to 0, as no function may",
     "errno-kept": f"{OF_SYSTEM}p0 truncate: has failed, and has not set errno",
+    **{
+        f"minus-{name}": f"{OF_SYSTEM}p0 {name}: has given -{error}, and no call gives a number below -1"
+        for name, error in (
+            ("write", errno.EBADF),
+            ("lseek", errno.ESPIPE),
+            ("fcntl", errno.EBADF),
+            ("close", errno.EBADF),
+            ("rename", errno.ENOENT),
+            ("waitpid", errno.ECHILD),
+        )
+    },
+    **{
+        f"seven-{name}": f"{OF_SYSTEM}p0 {name}: has given 7, and 0 is due where it does not fail"
+        for name in ("close", "pipe", "ftruncate", "rename", "fstat")
+    },
+    "zero-execv": f"{OF_SYSTEM}p0 execv: has failed, and has given 0, where -1 is due",
 }
 
 
@@ -864,10 +881,16 @@ def names_errno(bench: Bench) -> None:
 
 
 def takes_any_number(bench: Bench) -> None:
-    """What F_SETFL and F_SETFD give is any number but -1."""
+    """What F_SETFL and F_SETFD give is any number but -1. A group of processes, and an offset in what is no file of
+    fdref, may be below that."""
     ran = judged_wronged(bench, "set-one")
     past = "what went past fdref (first fcntl with other flags on descriptor 4)"
     same((0, f"{NOT_ALL}; not compared: {past}"), (ran.status, ran.stdout.decode("ascii").splitlines()[-1]))
+    ran = judged_wronged(bench, "seven-fcntl")
+    same((0, AGREES), (ran.status, ran.stdout.decode("ascii").splitlines()[-1]))
+    ran = bench.judged("--shim", bench.shim(), bench.compiled("judge_wronged"), "below")
+    last = ran.stdout.decode("ascii").splitlines()[-1]
+    require(ran.status == 0 and last.startswith("verdict: agreement"), ran.said())
 
 
 # Asks how a process has ended that is gone, by a descriptor of it: what is asked for, and the status at last.
