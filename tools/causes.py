@@ -398,8 +398,8 @@ class Causes:
         if is_timed or any(it.kind == past.TIMER for it in before):
             return TIMERS
         handled = self.handled(parting.place)
-        erring = past.told_errno(self.native)
-        return " or ".join([handled] * bool(handled) + [erring] * bool(erring) + [self.told_to(parting, before)])
+        told = [handled, past.told_errno(self.native), past.given(self.native), self.told_to(parting, before)]
+        return " or ".join(filter(None, told))
 
     def told_to(self, parting: Parting, before: list[Past]) -> str:
         """What a program may have been told by which it makes another call."""

@@ -783,7 +783,7 @@ class Verdict:
         late = [it.why() for it in self.causes.every if it.kind == past.SIGNAL]
         if late or self.is_timed():
             return late[0] if late else causes.TIMERS
-        others = [it for it in (handled, past.told_errno(self.native)) if it]
+        others = [it for it in (handled, past.told_errno(self.native), past.given(self.native)) if it]
         is_of_modes = past.has_looked(self.past, self.compared.records)
         numbers = f"which process came first, {UNTOLD}" if self.compared.processes > 1 else UNTOLD
         return " or ".join([*others, causes.MODES if is_of_modes else numbers])
@@ -794,7 +794,7 @@ class Verdict:
 
     def is_all_compared(self) -> bool:
         """Whether all that it did was compared, but for what only looks."""
-        are_told = past.told_own(self.past) or past.told_unlooked(self.native)
+        are_told = past.told_own(self.past) or past.told_unlooked(self.native) or past.given(self.native)
         is_all_seen = not self.compared.started.calls and not self.compared.looks() and not are_told
         return is_all_seen and not past.doubt(self.past)
 
@@ -992,6 +992,7 @@ def told_others(verdict: Verdict) -> list[str]:
     told += ["looks at names"] if verdict.compared.looks() else []
     told += ["how a child ended"] if past.told_unlooked(verdict.native) else []
     told += ["calls that fdref's library answers"] if past.told_own(every) else []
+    told += filter(None, [past.given(verdict.native)])
     told += [f"what went past fdref (first {compare.clipped(others[0].said(' of '), 60)})"] if others else []
     return told
 
@@ -1107,6 +1108,7 @@ def told(verdict: Verdict, seconds: float, before: int) -> str:
     lines += past.told_signals(every) if is_other else []
     lines += told_looks(len(verdict.compared.looks())) + past.told_own(every)
     lines += past.told_unlooked(verdict.native)
+    lines += [f"not compared: {it}" for it in [past.given(verdict.native)] if it]
     lines += map(compare.clipped, told_started(verdict.compared.started) + past.told_past(every))
     return "\n".join([*lines, f"audit: {verdict.audit}"])
 

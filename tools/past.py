@@ -49,6 +49,9 @@ UNLOOKED = "unlooked"
 IDLE = "idle"
 # A native call that has not failed, and has set errno.
 ERRNO = "errno"
+# A native fsync that has failed as a disk may, or has told of a pipe what each system may, or an isatty beside threads
+# that tells a terminal: what it gave.
+GIVEN = "given"
 COUNTED = {
     PATH: "path",
     STREAM: "stream",
@@ -62,7 +65,7 @@ MANY = {MAKES: "descriptors of the system"}
 # Kinds that have changed nothing in the native run which has no line, or are asked for by themselves.
 UNDOUBTED = (
     *(THREAD, SIGNAL, VFORK, CUT, INTERRUPT, TIMER, MADE, HANDLER, MAKES, RIGHTS, LOOK, OWN, WRONG, UNENDED),
-    *(UNLOOKED, ERRNO, IDLE),
+    *(UNLOOKED, ERRNO, IDLE, GIVEN),
 )
 
 # Calls that look, or hasten what comes anyway: they change no file, but may tell something else than natively.
@@ -114,8 +117,8 @@ class Past(NamedTuple):
 
     def is_past(self) -> bool:
         """Whether it is a call that went past fdref, and not what holds one of fdref."""
-        kinds = (THREAD, SIGNAL, MADE, INTERRUPT, HANDLER, MAKES, RIGHTS, LOOK, OWN, WRONG, UNENDED, UNLOOKED, ERRNO, IDLE)
-        return self.kind not in kinds
+        kinds = (THREAD, SIGNAL, MADE, INTERRUPT, HANDLER, MAKES, RIGHTS, LOOK, OWN, WRONG, UNENDED)
+        return self.kind not in (*kinds, UNLOOKED, ERRNO, IDLE, GIVEN)
 
     def why(self) -> str:
         """The same as what a difference may be by."""
@@ -202,6 +205,16 @@ def told_unlooked(native: list[Past]) -> list[str]:
     calls, why = dict.fromkeys(it.call for it in found), dict.fromkeys(it.name for it in found if it.name)
     causes = f" ({'; '.join(why)})" if why else ""
     return [f"not compared: how a child ended, of which the system told by {', '.join(calls)}{causes}"] if calls else []
+
+
+def given(native: Sequence[Past]) -> str:
+    """What the first native fsync or isatty gave which is not compared, or nothing."""
+    found = next((it for it in native if it.kind == GIVEN), None)
+    if not found:
+        return ""
+    word, _, number = found.name.rpartition(" ")
+    told = f"error {errno.errorcode.get(int(number), number)}" if word else number
+    return f"what {found.call} gave on the system ({told})"
 
 
 def told_signals(every: list[Past]) -> list[str]:

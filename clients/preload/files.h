@@ -425,6 +425,47 @@ int ioctl(int fd, int command, ...)
     return refuse(fd, "ioctl");
 }
 
+/* A native call that asks of a descriptor what no file of fdref tells: errno before, how many handlers had run, and
+   what the kernel has there, which another thread may change. */
+struct asking {
+    int is_watched, is_alone, is_open, error;
+    mode_t mode;
+    unsigned runs;
+};
+
+static struct asking begin_asking(int fd)
+{
+    struct asking it = {is_watching() && !is_behind, is_alone(), is_open_in_kernel(fd), errno, 0, runs};
+    it.mode = it.is_watched && it.is_open ? told_in_kernel(fd).st_mode : 0;
+    return it;
+}
+
+/* Whether that is known to be so in the call. */
+static int is_sure(const struct asking *it) { return it->is_watched && it->is_alone && it->runs == runs; }
+
+/* Notes what a native call gave that is not compared. */
+static void note_given(const char *name, int given, int error)
+{
+    char text[30];
+    snprintf(text, sizeof text, given < 0 ? "error %d" : "%d", given < 0 ? error : given);
+    notes("given", name, text);
+}
+
+/* Notes that what is no terminal is told to be one, or another error of it. The page lets errno be as it was. */
+static int check_terminal(const struct asking *it, int fd, int given)
+{
+    int error = errno, is_none = S_ISREG(it->mode) || S_ISFIFO(it->mode) || !it->is_open;
+    int is_other = error != it->error && error != ENOTTY && error != EINVAL;
+    if (is_sure(it) && is_none && given != 0)
+        note_wrong("isatty", "has not told that it is no terminal");
+    else if (is_sure(it) && is_none && it->is_open && slot_of(fd).held == OURS && is_other)
+        note_wrong("isatty", "has told no terminal by another error than ENOTTY or EINVAL");
+    else if (it->is_watched && !is_sure(it) && is_none && given != 0)
+        note_given("isatty", given, error);
+    errno = error;
+    return given;
+}
+
 static int is_no_terminal(struct going *it, int fd)
 {
     it->way = way_of(fd) == ASK ? ASK : PASS;
@@ -434,13 +475,26 @@ static int is_no_terminal(struct going *it, int fd)
     return it->way == ASK;
 }
 
-GOES(int, isatty, (int fd), (fd), is_no_terminal(&going, fd), gone_unseen)
+int isatty(int fd)
+{
+    NEXT_OF(isatty);
+    struct going going;
+    struct asking asking;
+    int given;
+    if (IS_INNER)
+        return next(fd);
+    if (is_no_terminal(&going, fd))
+        return (int)going.done;
+    asking = begin_asking(fd);
+    WITHIN(given, next(fd));
+    return check_terminal(&asking, fd, given);
+}
 
-/* Nothing is to be written that is not there yet. No pipe has that (page of fsync). */
+/* Nothing is to be written that is not there yet. No pipe has that (page of fsync), nor an offset. */
 static int64_t sync_ours(int fd)
 {
-    int64_t done = ask_aside(fdref_act_fstat(fd), NULL, 0);
-    return done < 0 || process->outcome.stat.kind == FDREF_KIND_REGULAR ? done : fails(EINVAL);
+    int64_t done = ask_aside(fdref_act_lseek(fd, 0, SEEK_CUR), NULL, INT64_MAX);
+    return done >= 0 ? 0 : errno == ESPIPE ? fails(EINVAL) : -1;
 }
 
 static int is_synced(struct going *it, int fd)
@@ -453,18 +507,39 @@ static int is_synced(struct going *it, int fd)
     return 1;
 }
 
+/* Notes what a native fsync may not give. That a disk fails is told by other errors, and what a pipe is, each system
+   may say: that is not compared. */
+static int check_synced(const struct asking *it, const char *name, int fd, int given)
+{
+    char text[80];
+    int error = errno, is_file = S_ISREG(it->mode), is_ours = slot_of(fd).held == OURS;
+    int is_due = given == (is_file ? 0 : -1) && (is_file || error == EINVAL);
+    if (is_sure(it) && !it->is_open && (given != -1 || error != EBADF)) {
+        note_wrong(name, "has not failed with EBADF, and nothing is open there");
+    } else if (is_sure(it) && is_ours && given == -1 && (error == EBADF || (is_file && error == EINVAL))) {
+        snprintf(text, sizeof text, "has failed with error %d, which no file gives that is open", error);
+        note_wrong(name, text);
+    } else if (it->is_watched && is_ours && !is_due) {
+        note_given(name, given, error);
+    }
+    errno = error;
+    return given;
+}
+
 #define SYNCS(name) \
     int name(int fd) \
     { \
         NEXT_OF(name); \
         struct going going; \
+        struct asking asking; \
         int given; \
         if (IS_INNER) \
             return next(fd); \
         if (is_synced(&going, fd)) \
             return (int)going.done; \
+        asking = begin_asking(fd); \
         WITHIN(given, next(fd)); \
-        return given; \
+        return check_synced(&asking, #name, fd, given); \
     }
 SYNCS(fsync)
 SYNCS(fdatasync)

@@ -749,19 +749,22 @@ static int is_closing(int fd)
     return flags >= 0 ? (flags & FD_CLOEXEC) != 0 : slots[fd].is_cloexec;
 }
 
-/* The number that the kernel has of the file of a descriptor, or 0 where it is not known. */
-static unsigned long long inode_in_kernel(int fd)
+/* What the kernel has of the file of a descriptor, or zeros where it is not known. */
+static struct stat told_in_kernel(int fd)
 {
     struct stat told;
     int error = errno;
     memset(&told, 0, sizeof told);
 #ifdef SYS_newfstatat
     if (system_syscall(SYS_newfstatat, (long)fd, "", &told, (long)AT_EMPTY_PATH) != 0)
-        told.st_ino = 0;
+        memset(&told, 0, sizeof told);
 #endif
     errno = error;
-    return told.st_ino;
+    return told;
 }
+
+/* The number that the kernel has of it. */
+static unsigned long long inode_in_kernel(int fd) { return told_in_kernel(fd).st_ino; }
 
 /* What is at a number as an exec begins. Natively it may have been closed where no call is seen. */
 static enum held held_now(int fd)

@@ -119,8 +119,8 @@ static void check_gone_on(const struct ending *it, const char *name, int64_t giv
 
 /* ---- the number that a call gives
 
-   A call that fails gives -1, and none gives a number below that, but for an offset in what is no file of fdref, a group
-   of processes, what a device answers, and output by a format that fails. Many give 0 alone where they do not fail. */
+   A call that fails gives -1, and none gives a number below that, but for an offset in what is no file of fdref, a
+   group of processes, what a device answers, and output by a format that fails. Many give 0 alone where they do not. */
 
 /* Whether a function has one of these names, which end with NULL, beside what tells its version or its width. */
 static int is_among(const char *name, const char *const *names)

@@ -612,6 +612,34 @@ static void do_each(void)
     close(fd);
 }
 
+/* Of a pipe fsync fails, and isatty of all. */
+static void sync_each(void)
+{
+    fsync(open("a", O_RDWR | O_CREAT, 0600));
+    fsync(ends[0]);
+    fsync(20);
+}
+
+static void sync_and_end(void) { exit(fsync(open("a", O_RDWR | O_CREAT, 0600)) != 0); }
+
+static void ask_terminals(void)
+{
+    isatty(ends[0]);
+    isatty(open("a", O_RDWR | O_CREAT, 0600));
+    isatty(20);
+}
+
+static void ask_terminals_beside(void)
+{
+    pthread_t thread;
+    if (pthread_create(&thread, NULL, stay, NULL) != 0)
+        exit(1);
+    ask_terminals();
+    close(ends[1]);
+    ends[1] = -1;
+    pthread_join(thread, NULL);
+}
+
 /* A group of processes is a number below -1, and so may the offset be in what is no file of fdref. */
 static void go_below(void)
 {
@@ -693,6 +721,10 @@ int main(int count, char **words)
         {"seven-ftruncate", do_each},   {"seven-rename", do_each},
         {"seven-fstat", do_each},       {"seven-fcntl", do_each},
         {"below", go_below},
+        {"sync-refused", sync_each},    {"sync-closed", sync_each},
+        {"sync-disk", sync_each},       {"sync-ends", sync_and_end},
+        {"terminal-told", ask_terminals}, {"terminal-error", ask_terminals},
+        {"terminal-beside", ask_terminals_beside},
         {"cloexec-exec", run_with_flags}, {"asks", ask_flags},
         {"exec-keeps", run_with_flags}, {"exec-closes", run_with_flags},
         {"ino-apart", ask_files},       {"ino-same", ask_files},

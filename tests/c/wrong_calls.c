@@ -75,6 +75,13 @@
    minus-NAME      write, lseek, fcntl, close, rename or waitpid gives its error below 0 where it fails
    seven-NAME      close, pipe, ftruncate, rename or fstat gives 7 where it does not fail
    zero-execv      execv gives 0 where it fails
+   sync-refused    fsync of a file is EBADF
+   sync-closed     fsync of what is closed is EIO
+   sync-disk       fsync of a file is EIO, which is what a disk may do
+   sync-ends       the same
+   terminal-told   isatty tells that all is a terminal
+   terminal-beside the same, beside a thread
+   terminal-error  isatty of no terminal is EPERM
 
    Two are right:
 
@@ -90,6 +97,7 @@
 #include <stdarg.h>
 #include <stdlib.h>
 #include <string.h>
+#include <sys/ioctl.h>
 #include <sys/resource.h>
 #include <sys/stat.h>
 #include <sys/syscall.h>
@@ -360,6 +368,26 @@ off_t lseek(int fd, off_t offset, int whence)
     if (is_wrong("errno-zeroed") || is_wrong("errno-set"))
         errno = is_wrong("errno-set") ? ENOTTY : 0;
     return (off_t)given_by("lseek", done);
+}
+
+int fsync(int fd)
+{
+    int done = (int)syscall(SYS_fsync, fd);
+    int is_failing = done == 0 ? is_wrong("sync-disk") || is_wrong("sync-ends") : is_wrong("sync-closed");
+    if (is_failing || (done == 0 && is_wrong("sync-refused"))) {
+        errno = is_failing ? EIO : EBADF;
+        return -1;
+    }
+    return done;
+}
+
+int isatty(int fd)
+{
+    char kept[256];
+    long done = syscall(SYS_ioctl, fd, (long)TCGETS, kept);
+    if (done < 0 && is_wrong("terminal-error"))
+        errno = EPERM;
+    return done == 0 || is_wrong("terminal-told") || is_wrong("terminal-beside");
 }
 
 int ftruncate(int fd, off_t length) { return (int)given_by("ftruncate", syscall(SYS_ftruncate, fd, (long)length)); }

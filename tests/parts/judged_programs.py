@@ -575,6 +575,8 @@ def cases(bench: Bench) -> Iterator[Case]:
             name = f"a signal that ends a call, which {word} makes: {wrong}"
             yield name, partial(goes_on_after_signals, bench, wrong, word, status, last)
     yield "F_SETFL and F_SETFD that give another number than 0", partial(takes_any_number, bench)
+    for word, told in GIVEN.items():
+        yield f"a call that is not compared: {word}", partial(leaves_open, bench, word, told)
     for word, why in ENDS_KEPT.items():
         yield f"a child's end that the kernel keeps: {word}", partial(compares_ends, bench, word, why)
     yield "a child's end beside a handler that ends calls", partial(loses_beside_handlers, bench)
@@ -846,6 +848,10 @@ WRONGED = {
         for name in ("close", "pipe", "ftruncate", "rename", "fstat")
     },
     "zero-execv": f"{OF_SYSTEM}p0 execv: has failed, and has given 0, where -1 is due",
+    "sync-refused": f"{OF_SYSTEM}p0 fsync: has failed with error {errno.EBADF}, which no file gives that is open",
+    "sync-closed": f"{OF_SYSTEM}p0 fsync: has not failed with EBADF, and nothing is open there",
+    "terminal-told": f"{OF_SYSTEM}p0 isatty: has not told that it is no terminal",
+    "terminal-error": f"{OF_SYSTEM}p0 isatty: has told no terminal by another error than ENOTTY or EINVAL",
 }
 
 
@@ -891,6 +897,26 @@ def takes_any_number(bench: Bench) -> None:
     ran = bench.judged("--shim", bench.shim(), bench.compiled("judge_wronged"), "below")
     last = ran.stdout.decode("ascii").splitlines()[-1]
     require(ran.status == 0 and last.startswith("verdict: agreement"), ran.said())
+
+
+# What a C library may give, which is not compared, and what is said of it.
+GIVEN = {
+    "sync-disk": "what fsync gave on the system (error EIO)",
+    "sync-ends": "what fsync gave on the system (error EIO)",
+    "terminal-beside": "what isatty gave on the system (1)",
+}
+
+
+def leaves_open(bench: Bench, word: str, told: str) -> None:
+    """That a disk may fail, and what another thread may have changed, is told as not compared, and as a cause."""
+    ran = judged_wronged(bench, word)
+    lines = ran.stdout.decode("ascii").splitlines()
+    require(f"not compared: {told}" in lines, ran.said())
+    if word == "sync-ends":
+        last = f"{ENDS_OTHERWISE}, perhaps by {told} or the number"
+        require(ran.status == 3 and lines[-1].startswith(last), ran.said())
+    else:
+        same((0, f"{NOT_ALL}; not compared: {told}"), (ran.status, lines[-1]))
 
 
 # Asks how a process has ended that is gone, by a descriptor of it: what is asked for, and the status at last.

@@ -147,8 +147,9 @@ def agree(native: Given, asked: Given) -> None:
 
 # ---- traces
 
-# What the library does by itself: it holds numbers, and looks at files by their names.
+# What the library does by itself: it holds numbers, looks at files by their names, and at what an fsync is of.
 BY_ITSELF = {"join", "attach", "exit", "close-run", "open", "unlink", "dup", "dup2", "close", "fstat", "ftruncate"}
+BY_ITSELF |= {"lseek"}
 
 
 def answered_calls(lines: Sequence[str]) -> dict[str, str]:
