@@ -343,16 +343,47 @@ def has_one_reader(uses: Sequence[Use]) -> bool:
 def is_cut_off(uses: Sequence[Use]) -> bool:
     """Whether the process that alone reads a pipe is told the end of it before it has got as much as was written."""
     reads = [given for _, line in uses if (given := given_by(line)) is not None]
-    put = sum(len(written_by(line)) for _, line in uses if word_of(line) == "write")
+    put = sum(len(written_by(line)) for _, line in uses)
     return has_one_reader(uses) and not all(reads) and sum(map(len, reads)) < put
 
 
 def is_lossy(uses: Sequence[Use]) -> bool:
     """The same, or whether it has not got the first bytes that the only writer has written."""
     got = b"".join(given_by(line) or b"" for _, line in uses)
-    put = b"".join(written_by(line) for _, line in uses if word_of(line) == "write")
+    put = b"".join(written_by(line) for _, line in uses)
     is_one = has_one_reader(uses) and len({way for way, line in uses if word_of(line) == "write"}) == 1
     return is_cut_off(uses) or (is_one and put[: len(got)] != got[: len(put)])
+
+
+def is_torn(uses: Sequence[Use]) -> bool:
+    """Whether the process that alone reads a pipe has got as many bytes as were written, each time in one piece, and
+    not one write after another, in whatever order those of different processes came."""
+    got, writes = b"".join(given_by(line) or b"" for _, line in uses), dict[Way, list[bytes]]()
+    for way, line in uses:
+        if data := written_by(line):
+            writes.setdefault(way, []).append(data)
+            if len(data) < size_of(line.act.split(" ")[-1]) or len(data) > PIPE_BUF:
+                return False
+    if not has_one_reader(uses) or len(got) != sum(map(len, itertools.chain(*writes.values()))):
+        return False
+    every = [*writes.values()]
+    # how many writes of each process have come, by how many bytes these are
+    reached = {0: {(0,) * len(every)}}
+    while reached and min(reached) < len(got):
+        size = min(reached)
+        for counts in reached.pop(size):
+            for at, data in next_of(every, counts):
+                if got.startswith(data, size):
+                    more = (*counts[:at], counts[at] + 1, *counts[at + 1 :])
+                    reached.setdefault(size + len(data), set()).add(more)
+        if sum(map(len, reached.values())) > STATES_LEAST:
+            return False
+    return not reached
+
+
+def next_of(every: Sequence[Sequence[bytes]], counts: Sequence[int]) -> list[tuple[int, bytes]]:
+    """The next write of each process that has one left, after so many of each."""
+    return [(at, own[count]) for at, (own, count) in enumerate(zip(every, counts, strict=True)) if count < len(own)]
 
 
 def given_by(line: Line) -> bytes | None:
@@ -363,6 +394,8 @@ def given_by(line: Line) -> bytes | None:
 
 def written_by(line: Line) -> bytes:
     """The bytes that a write has moved."""
+    if word_of(line) != "write":
+        return b""
     data = plain_model.read_data(line.act.split(" ")[-1].encode()) or b""
     return data[: int(line.outcome)] if line.outcome.isdigit() else b""
 
@@ -460,6 +493,9 @@ def found_for(compared: Compared, program: list[str], given: Doubts, seconds: fl
         return none_in(builder)
     if any(line.outcome == "error EINTR" and not compared.is_ended(line) for line in compared.system_lines):
         return none_in(builder)
+    # it is known then that no call was made within another one
+    if is_sure and not doubt and builder.lanes() and has_lost(compared.system, is_torn):
+        return none_in(builder)
     if search(builder, compared.limits, program, seconds):
         return Ordered(True, AN_ORDER if not builder.unknown else OTHERS, not builder.unknown)
     size = written([noted for lane in builder.lanes() for noted in lane])
@@ -467,13 +503,22 @@ def found_for(compared: Compared, program: list[str], given: Doubts, seconds: fl
     if size > compared.limits.capacity and has_less and search(roomy, ROOMY, program, seconds):
         room = f"where a pipe holds {ROOMY.capacity:,} bytes: {ROOM} (own; page of write)"
         return Ordered(True, f"{OTHERS if roomy.unknown else AN_ORDER}, {room}", not roomy.unknown, True)
-    # else no pipe of Linux is full: small writes go on in a page
-    has_filled = size > pages.OF_SYSTEM
+    has_filled = can_have_filled(compared, size)
     doubts = {doubt: [more] if doubt else [], **doubts_of(compared, builder), ROOM: [""] if has_filled else []}
     for why, calls in doubts.items():
         if calls:
             raise Open(f"none was found, but {why} may be why" + (f": {calls[0]}" if calls[0] else ""))
     return none_in(builder)
+
+
+def can_have_filled(compared: Compared, size: int) -> bool:
+    """Whether a pipe that holds less than so many bytes, which are written, can have given what no order gives. No pipe
+    of Linux is full with less than a page: small writes go on there. Where each write waits for room, and stays in one
+    piece, less room delays it and does nothing else; and the largest pipe has held all of them in the search."""
+    writes = (line for line in compared.system_lines if word_of(line) == "write")
+    is_whole = all(size_of(line.act.split(" ")[-1]) <= PIPE_BUF for line in writes)
+    is_delayed = is_whole and not any("nonblock" in line.act for line in compared.system_lines)
+    return size > pages.OF_SYSTEM and not (is_delayed and size <= ROOMY.capacity)
 
 
 def doubts_of(compared: Compared, builder: Builder) -> dict[str, list[str]]:

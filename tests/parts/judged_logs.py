@@ -703,6 +703,26 @@ ITS_HERE = OWN_HERE.replace("5 p1", "5 p0 unlink b = error ENOENT; 6 p0 link a b
     "= 2; 6 ", "= 2; 9 "
 )
 
+# Two processes write more than a page in all, and a third one reads it, of which the writes are whole, or torn.
+SIX_WRITES = [f"p{number} write 1 6{number}*400 = 400" for _ in range(6) for number in (1, 2)]
+SIX_TORN = ["p0 read 0 200 = 61*200", "p0 read 0 200 = 62*200"] * 12
+SIX_WHOLE = ["p0 read 0 200 = 62*200"] * 2 + ["p0 read 0 200 = 61*200"] * 2
+SIX_HERE = [it for one in SIX_WRITES for it in (one, *[f"p0 read 0 200 = {one.split(' ')[3][:2]}*200"] * 2)]
+ALL_TORN, MOST_TORN, ALL_WHOLE = SIX_WRITES + SIX_TORN, SIX_WRITES + SIX_TORN[:-1], SIX_WRITES + SIX_WHOLE * 6
+LARGE, GOES_ON = "p1 write 1 61*600 = 600", "p1 setfl 1 w,nonblock = ok"
+BY_ROOM = f"{OPEN_ORDER}none was found, but {ROOM} may be why"
+NOT_BY_TIME = f"not judged: 12 answers differ with a reason: {OF_TIME}; {NOT_DECIDED}"
+IN_LARGER = f"{AN_ORDER}, where a pipe holds 65,536 bytes: {ROOM} (own; page of write)"
+NOT_ROOMY = f"not judged: {IN_LARGER}; fdref's has 1,024 (--pipe-capacity 65536)"
+NO_OTHERS = NO_ORDER.replace("all answers", "all other answers")
+FULL_AT_ONCE = [*SIX_WRITES[:2], "p1 write 1 61*400 = parked 0"]
+
+
+def placed_after(before: str, lines: Sequence[str]) -> str:
+    """Lines that stand at the places after others."""
+    return before + "; ".join(f"{6 + at} {line}" for at, line in enumerate(lines))
+
+
 ORDERS = [
     Orders(
         "two processes and a name that one of them makes",
@@ -1065,6 +1085,25 @@ ORDERS = [
         f"not judged: 1 answer differs with a reason: {SMALL_ROOM}, 1 later answer was not judged",
         3,
     ),
+    *[
+        Orders(
+            f"writes to a pipe that are {name}",
+            TWO + "; ".join(system),
+            placed_after(TWO_HERE, fdref),
+            order,
+            verdict,
+            status,
+        )
+        for name, system, fdref, order, verdict, status in (
+            ("torn", ALL_TORN, SIX_HERE, NO_ORDER, f"a difference: {NO_ORDER}", 1),
+            ("torn, where fdref's is full", ALL_TORN, FULL_AT_ONCE, NO_OTHERS, f"a difference: {NO_OTHERS}", 1),
+            ("torn, and not all read", MOST_TORN, SIX_HERE[:-1], NO_ORDER, f"a difference: {NO_ORDER}", 1),
+            ("torn, beside a large one", [LARGE, *MOST_TORN], [LARGE, *SIX_HERE[:-1]], BY_ROOM, NOT_BY_TIME, 3),
+            ("torn, where some do not wait", [GOES_ON, *MOST_TORN], [GOES_ON, *SIX_HERE[:-1]], BY_ROOM, NOT_BY_TIME, 3),
+            ("whole", ALL_WHOLE, SIX_HERE, f"reason: {IN_LARGER}", NOT_ROOMY, 3),
+            ("whole, where fdref's is full", ALL_WHOLE, FULL_AT_ONCE, f"reason: {IN_LARGER}", NOT_ROOMY, 3),
+        )
+    ],
 ]
 
 
