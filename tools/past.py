@@ -50,7 +50,7 @@ IDLE = "idle"
 # A native call that has not failed, and has set errno.
 ERRNO = "errno"
 # A native fsync that has failed as a disk may, or has told of a pipe what each system may, or an isatty beside threads
-# that tells a terminal: what it gave.
+# that tells a terminal, or a wait that tells of a child that has stopped or goes on: what it gave.
 GIVEN = "given"
 COUNTED = {
     PATH: "path",
@@ -208,12 +208,12 @@ def told_unlooked(native: list[Past]) -> list[str]:
 
 
 def given(native: Sequence[Past]) -> str:
-    """What the first native fsync or isatty gave which is not compared, or nothing."""
+    """What the first native fsync, isatty or wait gave which is not compared, or nothing."""
     found = next((it for it in native if it.kind == GIVEN), None)
     if not found:
         return ""
-    word, _, number = found.name.rpartition(" ")
-    told = f"error {errno.errorcode.get(int(number), number)}" if word else number
+    number = found.name.removeprefix("error ")
+    told = f"error {errno.errorcode.get(int(number), number)}" if number != found.name else number
     return f"what {found.call} gave on the system ({told})"
 
 

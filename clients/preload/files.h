@@ -949,6 +949,17 @@ static const char *why_unlooked(const struct waiting *it)
     return has_ending_handler() ? "a handler is set that ends calls" : "it ended meanwhile";
 }
 
+/* Notes that a native wait has told a child that has stopped or goes on, by which signal the kernel tells but once. */
+static void note_stopped(const char *name, int status)
+{
+    char text[30] = "a child that goes on";
+    if (!is_watching())
+        return;
+    if (WIFSTOPPED(status))
+        snprintf(text, sizeof text, "a stop by signal %d", WSTOPSIG(status));
+    notes("given", name, text);
+}
+
 static void check_ended(const struct waiting *it, pid_t child, int status)
 {
     char text[100];
@@ -966,6 +977,8 @@ static void check_ended(const struct waiting *it, pid_t child, int status)
     if (!WIFEXITED(status) && !WIFSIGNALED(status)) {
         if (has_found_end(it) && child == it->child)
             note_wrong(it->name, "has told no end of a child that has ended");
+        else
+            note_stopped(it->name, status);
         return;
     }
     if (has_child(child, &ended, WNOHANG)) {
@@ -1070,7 +1083,7 @@ int waitid(idtype_t kind, id_t which, siginfo_t *given, int options)
     static __typeof__(&waitid) next;
     siginfo_t own, *to = given ? given : &own;
     struct waiting waiting;
-    int done, is_ended;
+    int done, is_ended, is_told;
     find(&next, "waitid");
     if (IS_INNER)
         return next(kind, which, given, options);
@@ -1086,8 +1099,12 @@ int waitid(idtype_t kind, id_t which, siginfo_t *given, int options)
     WAITING(done, (pid_t)which, next(kind, which, to, options));
     is_ended = done == 0 && to->si_pid > 0
                && (to->si_code == CLD_EXITED || to->si_code == CLD_KILLED || to->si_code == CLD_DUMPED);
-    if (is_ended || done != 0)
-        check_wait(&waiting, is_ended ? to->si_pid : -1, is_ended ? status_in(to) : 0);
+    /* what has been told of another child is not looked at where there is none */
+    is_told = done == 0 && !is_ended && to->si_pid > 0 && !waiting.is_childless;
+    if (is_told && (to->si_code == CLD_STOPPED || to->si_code == CLD_CONTINUED))
+        note_stopped("waitid", to->si_code == CLD_STOPPED ? to->si_status << 8 | 0x7f : 0xffff);
+    else if (!is_told)
+        check_wait(&waiting, is_ended ? to->si_pid : done == 0 ? 0 : -1, is_ended ? status_in(to) : 0);
     if (is_ended)
         ended_child(to->si_pid, status_in(to));
     return done;

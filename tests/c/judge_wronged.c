@@ -243,6 +243,29 @@ static void await_told(void)
     waitid(P_ALL, 0, &told, WEXITED);
 }
 
+/* After the only child there is none, and none is told. */
+static void await_told_again(void)
+{
+    siginfo_t told;
+    await_told();
+    waitid(P_ALL, 0, NULL, WEXITED);
+    waitid(P_ALL, 0, &told, WEXITED | WNOHANG);
+}
+
+/* While a child has not ended, it is told that none has, by WNOHANG. */
+static void await_told_none(void)
+{
+    siginfo_t told;
+    pid_t child = fork();
+    if (child == 0)
+        _exit((int)read(ends[0], bytes, 1));
+    told.si_pid = child;
+    if (waitid(P_ALL, 0, &told, WEXITED | WNOHANG) != 0 || told.si_pid != 0)
+        exit(1);
+    write(ends[1], "x", 1);
+    waitid(P_PID, (id_t)child, &told, WEXITED | WSTOPPED);
+}
+
 /* The same beside a thread. */
 static void await_self_beside(void)
 {
@@ -704,7 +727,9 @@ int main(int count, char **words)
         {"ended-stopped", await_status}, {"ended-continued", await_status},
         {"ended-unstored", await_status},
         {"handled", await_handled},     {"by-two", await_by_two},
-        {"stopped", await_stopped},
+        {"stopped", await_stopped},     {"stop-other", await_stopped},
+        {"waitid-any", await_told_again}, {"waitid-same", await_told_again},
+        {"none-yet", await_told_none},
         {"fork-again", fork_twice},
         {"fork-beside", fork_beside},   {"fork-child", fork_once},
         {"fork-parent", fork_once},

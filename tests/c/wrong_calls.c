@@ -75,6 +75,9 @@
    minus-NAME      write, lseek, fcntl, close, rename or waitpid gives its error below 0 where it fails
    seven-NAME      close, pipe, ftruncate, rename or fstat gives 7 where it does not fail
    zero-execv      execv gives 0 where it fails
+   waitid-any      waitid gives 0 where there is no child, and tells none
+   waitid-same     the same, and tells what it told before
+   stop-other      waitpid tells another signal that has stopped a child
    sync-refused    fsync of a file is EBADF
    sync-closed     fsync of what is closed is EIO
    sync-disk       fsync of a file is EIO, which is what a disk may do
@@ -271,8 +274,12 @@ pid_t wait4(pid_t which, int *status, int options, struct rusage *used)
 int waitid(idtype_t kind, id_t which, siginfo_t *told, int options)
 {
     int done = (int)syscall(SYS_waitid, kind, which, told, options, NULL);
-    if (done == 0)
+    if (done == 0 && told)
         told->si_pid = told_for(told->si_pid);
+    if (done < 0 && is_wrong("waitid-any") && told)
+        memset(told, 0, sizeof *told);
+    if (done < 0 && begins_wrong("waitid-"))
+        return 0;
     return done;
 }
 
@@ -287,6 +294,8 @@ pid_t waitpid(pid_t which, int *status, int options)
         done = syscall(SYS_wait4, which, is_wrong("ended-unstored") ? NULL : status, options, NULL);
     if (done > 0 && (is_wrong("ended-stopped") || is_wrong("ended-continued")))
         *status = is_wrong("ended-stopped") ? SIGSTOP << 8 | 0x7f : 0xffff;
+    if (done > 0 && is_wrong("stop-other") && WIFSTOPPED(*status))
+        *status = SIGTSTP << 8 | 0x7f;
     if (done > 0 && (is_wrong("wait-early") || is_wrong("wait-status")))
         *status = 0;
     if (done > 0 && WIFSIGNALED(*status) && begins_wrong("wait-killed"))

@@ -805,6 +805,8 @@ WRONGED = {
     "ended-stopped": f"{OF_SYSTEM}p0 waitpid: has told no end of a child that has ended",
     "ended-continued": f"{OF_SYSTEM}p0 waitpid: has told no end of a child that has ended",
     "ended-unstored": f"{OF_SYSTEM}p0 waitpid: has told no end of a child that has ended",
+    "waitid-any": f"{OF_SYSTEM}p0 waitid: has not failed, and there is no such child",
+    "waitid-same": f"{OF_SYSTEM}p0 waitid: has not failed, and there is no such child",
     "fork-other": f"{OF_SYSTEM}p0 fork: has told the number of no child",
     "fork-again": f"{OF_SYSTEM}p0 fork: has told the number of another process than its child",
     "fork-beside": f"{OF_SYSTEM}p0 fork: has told the number of another process than its child",
@@ -904,6 +906,7 @@ GIVEN = {
     "sync-disk": "what fsync gave on the system (error EIO)",
     "sync-ends": "what fsync gave on the system (error EIO)",
     "terminal-beside": "what isatty gave on the system (1)",
+    "stop-other": f"what waitpid gave on the system (a stop by signal {int(signal.SIGTSTP)})",
 }
 
 
@@ -969,7 +972,7 @@ def loses_beside_handlers(bench: Bench) -> None:
 
 AGREES = "verdict: agreement: no answer differs"
 # Waits of a program of judge_wronged beside a handler that waits, in two threads, and for a child that stops.
-RIGHT_WAITS = ("handled", "by-two", "stopped")
+RIGHT_WAITS = ("handled", "by-two", "stopped", "none-yet")
 
 
 def excuses_waits(bench: Bench, word: str) -> None:
