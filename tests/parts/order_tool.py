@@ -465,7 +465,7 @@ IN_NO_ORDER = [
     f"{READ_FIRST}42 43 p0 pread 1 0 1 = error EINVAL\n",
     f"{OPEN_FIRST}42 43 p1 write 0 x616263 = 3\n44 45 p1 fstat 0 = fifo 0 1\n95 96 p0 read 0 9 = x6162\n",
     LINKED.replace("25 30 p1", "15 16 p1"),
-    LINKED.replace("25 30 p1", "65 66 p1").replace("EEXIST", "EMLINK"),
+    LINKED.replace("25 30 p1", "65 66 p1").replace("EEXIST", "EBADF"),
     f"{FILLED}70 71 p1 read 0 100 = 62*100\n",
     FILLED.replace("30 31 p1", "12 13 p1"),
     SET.replace("25 30 p1", "15 16 p1"),
