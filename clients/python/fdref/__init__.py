@@ -107,6 +107,8 @@ TRACE_HEADERS = {1: (b"FDTRACE1", 8), 2: (b"FDTRACE2", 24)}
 # What the header of version 2 may tell.
 RECORDS_MOST = 1_000_000
 PIPE_CAPACITIES = range(512, 65_536 + 1)
+# What a pipe holds where a run is given no number. In traces of version 1 pipes hold 1,024 bytes, whatever stands here.
+PIPE_CAPACITY = 1_024
 FILE_SIZES = (1_048_576, 2**40)
 # The `pid` of the record that closes a run, which no process makes.
 HOUSE = 2**32 - 1
@@ -935,7 +937,7 @@ class Header(NamedTuple):
 
     version: int = 2
     most_records: int = 0
-    pipe_capacity: int = 1_024
+    pipe_capacity: int = PIPE_CAPACITY
     file_size: int = 2**40
 
 
@@ -962,7 +964,7 @@ def write_trace(
     path: str | os.PathLike[str],
     records: Iterable[Record],
     most_records: int = 0,
-    pipe_capacity: int = 1_024,
+    pipe_capacity: int = PIPE_CAPACITY,
     file_size: int = 2**40,
 ) -> int:
     """Writes records as a trace of version 2, over what is at the path, and returns how many they are.
