@@ -16,7 +16,7 @@ from support import plain_model
 from support.commands import ChosenLimits
 from support.histories import UNKNOWN, WAITS, Noted
 from support.ordering import ROOMY, By
-from support.overdue import is_overdue
+from support.overdue import is_overdue, pages_free
 from support.plain_model import Act, Description, Limits, Pipe, World
 from support.replaying import Differs, is_waiting, replayed
 from support.runs import Line, Settled, line_of
@@ -24,6 +24,7 @@ from support.searching import FOREVER, Call, Place, Search, Step, TooLong
 from support.worlds import thawed
 
 from compare_instead import Appending, ways
+from compare_lines import moved
 from compare_reasons import APPENDED, OWN, Difference, Fillings, Reason, appended_to, follows_append
 from compare_reasons import is_paged_room, is_room, reason_of
 from compare_runs import act_of, together
@@ -249,8 +250,18 @@ def apart_at(
         reason = APPENDED if is_by_append(history, place, limits, known, instead) else None
     # a pipe of one page has no room where that is filled to its end
     page = difference.page if difference.has_same_room and limits.capacity == difference.page else None
-    difference.reason = None if is_overdue(history, place, whole.behind, page) else reason
+    is_due = is_overdue(history, place, whole.behind, page) or fits_free_pages(difference, reason, history, whole)
+    difference.reason = None if is_due else reason
     return Apart(place, history[place], answer, limits, difference.reason, difference.is_settled(), NOTHING), difference
+
+
+def fits_free_pages(it: Difference, reason: Reason | None, history: Sequence[Noted], whole: Beside) -> bool:
+    """Whether more of a write fits into the pages that are free in each order than went in, so that it is no reason
+    how pages are counted. How many there are is known where it is said."""
+    if reason is None or reason.fits is not is_paged_room or not it.has_same_room or not it.words("write"):
+        return False
+    free = it.page * pages_free(history, it.place, whole.behind, it.page)
+    return free > 0 if it.system == WAITS else it.count() <= free or moved(it.system) < free
 
 
 def is_by_append(history: Sequence[Noted], place: int, limits: Limits, known: Known, instead: Instead) -> bool:

@@ -1106,6 +1106,30 @@ MAY_WAIT = [
     f"{READ_AGAIN}?\n",
     f"{OTHER_READ}30 31 p1 read 2 600 = 61*600\n",
 ]
+# Writes to a pipe of so many bytes that have no room, though reads have emptied a page, whatever order calls at once take
+# and whichever size a page has; and the nearest that have a reason: no page was emptied, or perhaps none.
+EMPTIED = f"{TWO}10 11 p0 write 1 61*4096 = 4096\n12 13 p0 write 1 61*4096 = 4096\n"
+EMPTIED += "20 - p0 write 1 62*600 = parked ?\n30 31 p1 read 0 4096 = 61*4096\n"
+BOTH_FILL = f"{TWO}8 9 p0 fork = 2\n10 11 p2 attach = ok\n12 15 p0 write 1 61*100 = 100\n12 15 p1 write 1 61*4096 = 4096\n"
+BOTH_FILL += "20 - p0 write 1 61*4096 = parked ?\n30 31 p2 read 0 4096 = 61*4096\n"
+SIXTEEN = "".join(f"{at} {at} p0 write 1 61*4096 = 4096\n" for at in range(10, 26))
+SIXTEEN = f"{TWO}{SIXTEEN}40 - p0 write 1 62*600 = parked ?\n50 51 p1 read 0 32768 = 61*32768\n"
+PART_WAITS = EMPTIED.replace("62*600", "62*4097")
+DRY_PAGE = EMPTIED.replace("10 11", "8 9 p0 setfl 1 -,nonblock = ok\n10 11").replace("20 -", "40 50")
+DRY_PAGE = f"{DRY_PAGE.replace('parked ?', 'error EAGAIN')}42 43 p1 getfl 0 = 1\n"
+EMPTIED_LOST = [
+    (EMPTIED, 8192),
+    (BOTH_FILL, 8192),
+    (SIXTEEN, 65536),
+    (f"{PART_WAITS}40 41 p1 read 0 4096 = 61*4096\n", 8192),
+    (DRY_PAGE, 8192),
+]
+EMPTIED_WAITS = [
+    (EMPTIED.replace("4096 = 61*4096\n", "4095 = 61*4095\n"), 8192),
+    (BOTH_FILL.replace("4096 = 61*4096\n", "100 = 61*100\n"), 8192),
+    (SIXTEEN.replace("32768", "4096"), 65536),
+    (DRY_PAGE.replace("4096 = 61*4096\n", "4095 = 61*4095\n"), 8192),
+]
 
 
 def lost_cases(program: str) -> Iterator[Case]:
@@ -1118,6 +1142,12 @@ def lost_cases(program: str) -> Iterator[Case]:
     paged = "reason: room of a pipe that is counted in pages (own; page of write)"
     yield "a write beside a page", partial(fails, program, PAGE_LOST, 1, woken, "--pipe-capacity", "8192")
     yield "a write beside the end of one page", partial(ends_with, program, ONE_PAGE, 0, paged, *known)
+    for text, room in EMPTIED_LOST:
+        case = partial(fails, program, text, 1, "page of write", "--pipe-capacity", str(room))
+        yield f"no room beside a page that is free: {text}", case
+    for text, room in EMPTIED_WAITS:
+        case = partial(ends_with, program, text, 0, paged, "--pipe-capacity", str(room))
+        yield f"no page that is free: {text}", case
     emptied = ONE_PAGE.replace("20 -", "14 15 p1 read 0 4096 = 61*4096\n16 17 p0 write 1 61*300 = 300\n20 -")
     emptied = emptied.replace("30 31 p1 read 0 4095 = 61*4095", "30 31 p1 read 0 299 = 61*299")
     yield "a write beside a page that was empty", partial(fails, program, emptied, 1, woken, *known)

@@ -3,13 +3,19 @@
 How many bytes a pipe holds is left open, but each holds PIPE_BUF: where all that may be in it, and all that is left of
 a write, are no more than that together, that write is done. It is done, too, where each of its bytes was read, whatever
 else is in the pipe. That holds in whatever order the calls took effect.
+
+Where it is known how many pages a pipe has, each write takes at least one of them, and no more than its bytes fill. A
+page is free again once all its bytes were read. So there is one free where fewer can be in use, in whatever order.
 """
 
+import itertools
+import math
 from collections import Counter
-from collections.abc import Sequence
+from collections.abc import Iterator, Sequence
+from typing import NamedTuple
 
 from support import plain_model
-from support.histories import WAITS, Noted
+from support.histories import UNKNOWN, WAITS, Noted
 from support.plain_model import PIPE_BUF, Description, Pipe
 
 
@@ -79,3 +85,109 @@ def is_last_in_vain(calls: Sequence[Noted], last: Noted) -> bool:
     if last.act.word != "read" or last.outcome not in (WAITS, "error EAGAIN"):
         return False
     return all(it is last or it.precedes(last) or (it.outcome == WAITS and it.start < last.start) for it in calls)
+
+
+# ---- pages
+
+
+class Filled(NamedTuple):
+    """A write, and how many bytes are in each page that it may have taken."""
+
+    noted: Noted
+    sizes: list[int]
+
+
+def pages_free(history: Sequence[Noted], place: int, behind: Sequence[Description | None], page: int) -> int:
+    """How many pages of a pipe are free all the time in which a write to it has no room, if not all of it fits, in
+    whatever order the calls took effect: at the end of the history where it waits there. It is known on which
+    description each read and write is made, and how many bytes a page has."""
+    noted, at = history[place], behind[place]
+    both = list(zip(history, behind, strict=True))
+    if noted.act.word != "write" or not at or not at.pipe or any(is_elsewhere(*it) for it in both):
+        return 0
+    calls = [it for it, to in both if is_at(it, to, at.pipe) and (it is not noted or it.end is None)]
+    reads = [it for it in calls if noted.end is None or it.precedes(noted)]
+    writes = [it for it in calls if it.act.word == "write" and not noted.precedes(it)]
+    given, pages = Counter(b"".join(map(data_read, reads))), at.pipe.capacity // page
+    filled = [Filled(it, sizes) for it in writes if (sizes := sizes_of(it, page))]
+    if are_ordered(filled):
+        used = used_in_order(filled, calls, given.total(), pages, page)
+    else:
+        used = sum(used_at_most(group, given) for group in alike(filled))
+    return max(pages - used, 0)
+
+
+def sizes_of(noted: Noted, page: int) -> list[int]:
+    """How many bytes a write has in each page that it may have taken. One that waits, though there is a page for the
+    rest of it, has not taken that."""
+    if noted.outcome == WAITS:
+        return [page] * ((len(noted.act.fields[1]) - 1) // page)
+    count = len(most_moved(noted))
+    return [min(page, count - at) for at in range(0, count, page)]
+
+
+def alike(filled: Sequence[Filled]) -> Iterator[list[Filled]]:
+    """Groups of writes of which no two have a byte in common, so that it is known how many bytes of each were read."""
+    groups: list[list[Filled]] = []
+    for it in filled:
+        own = set(it.noted.act.fields[1])
+        same = [group for group in groups if any(own & set(other.noted.act.fields[1]) for other in group)]
+        groups = [group for group in groups if group not in same] + [[*(one for group in same for one in group), it]]
+    yield from groups
+
+
+def used_at_most(group: Sequence[Filled], given: Counter[int]) -> int:
+    """How many pages some writes still take at most, once these bytes were read: what was written first is read first,
+    and of writes at once the one that leaves most pages in use."""
+    left = sum(given[byte] for byte in set().union(*(it.noted.act.fields[1] for it in group)))
+    rest: list[int] = []
+    gone = 0
+    for it in group:
+        end = sum(sum(other.sizes) for other in group if other is not it and not it.noted.precedes(other.noted))
+        for size in it.sizes:
+            end += size
+            gone += size if end <= left else 0
+            rest += [size] if end > left else []
+    sums = itertools.accumulate(sorted(rest, reverse=True))
+    return sum(count > left - gone for count in sums)
+
+
+def are_ordered(filled: Sequence[Filled]) -> bool:
+    """Whether each of some writes came back before the next one began."""
+    return all(one.noted.precedes(other.noted) for one, other in itertools.pairwise(filled))
+
+
+def used_in_order(filled: Sequence[Filled], calls: Sequence[Noted], left: int, pages: int, page: int) -> int:
+    """How many pages some writes, one after another, still take at most, once so many bytes were read: each has pages
+    of its own, unless more than there are would have been in use then, or goes on in the last page, where it fits."""
+    ends = list(itertools.accumulate(size for it in filled for size in it.sizes))
+    begins = [0, *itertools.accumulate(sum(it.sizes) for it in filled)]
+    read = [most_read(calls, it.noted) for it in filled]
+    # a page that was emptied before a write is not gone on in
+    tails = [at for at, most in enumerate(read) if begins[at] <= min(left, most)]
+    used = max((used_together(filled[at:], left - begins[at], page) for at in tails), default=0)
+    counts = itertools.accumulate(len(it.sizes) for it in filled)
+    own = (sum(end > most for end in ends[:count]) for count, most in zip(counts, read, strict=True))
+    return used if any(count > pages for count in own) else max(used, sum(end > left for end in ends))
+
+
+def most_read(calls: Sequence[Noted], write: Noted) -> float:
+    """How many bytes the reads of a pipe may have given when a write came back; any number where it has not."""
+    if write.end is None:
+        return math.inf
+    begun = [it for it in calls if it.act.word == "read" and it.start <= (write.end or 0)]
+    return sum(it.act.fields[1] if it.outcome == UNKNOWN else len(data_read(it)) for it in begun)
+
+
+def used_together(filled: Sequence[Filled], left: int, page: int) -> int:
+    """How many pages some writes still take, once so many bytes were read, if each goes on in the page of the one
+    before it, where what it has beside whole pages fits there."""
+    sizes: list[int] = []
+    for it in filled:
+        count = sum(it.sizes)
+        rest = count % page
+        if rest and sizes and sizes[-1] + rest <= page:
+            sizes[-1] += rest
+            count -= rest
+        sizes += [min(page, count - at) for at in range(0, count, page)]
+    return sum(end > left for end in itertools.accumulate(sizes))
