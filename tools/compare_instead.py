@@ -10,14 +10,22 @@ from collections.abc import Iterator
 from support import plain_model
 from support.plain_model import TRANSFER_MAX, Act, Description, Process, Reply, World
 
-from compare_limits import is_fewer_descriptors, is_long_name, is_many_files, is_no_process, is_no_space
-from compare_limits import is_smaller_file
+from compare_limits import is_fewer_descriptors, is_larger_piece, is_long_name, is_many_files, is_no_process
+from compare_limits import is_no_space, is_smaller_file
 from compare_reasons import READ_MOST, Difference, follows_append, is_append, is_count, is_lseek_past_files
 from compare_reasons import is_paged_room, is_pwrite_appended, is_reader_waiting, is_room, process_of
 from compare_runs import act_of
 
 # Limits by which a system refuses a call, which changes nothing then.
-REFUSING = (is_fewer_descriptors, is_smaller_file, is_no_space, is_many_files, is_no_process, is_long_name)
+REFUSING = (
+    is_fewer_descriptors,
+    is_smaller_file,
+    is_no_space,
+    is_many_files,
+    is_no_process,
+    is_long_name,
+    is_larger_piece,
+)
 
 # ---- the acts
 

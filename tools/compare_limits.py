@@ -10,7 +10,7 @@ from typing import NamedTuple
 from support import plain_model
 from support.histories import UNKNOWN, Noted
 from support.pipe_ends import change
-from support.plain_model import OFFSET_MAX, OPEN_MAX
+from support.plain_model import OFFSET_MAX, OPEN_MAX, PIPE_BUF
 from support.runs import Line
 
 from compare_reasons import OWN, Difference, Reason, free_descriptors, gives_descriptors, names_of, reason_of
@@ -87,7 +87,23 @@ def names_told(lines: Sequence[Line]) -> Iterator[Told]:
         yield Told(length if is_taken else -1, length if outcome == "error ENAMETOOLONG" else float("inf"))
 
 
+def pieces_told(lines: Sequence[Line]) -> Iterator[Told]:
+    """What a history tells of PIPE_BUF: a write of fewer bytes, or of as many, is not cut short."""
+    for _, act, outcome in acts_of(lines):
+        is_part = act.word == "write" and outcome.isdigit() and 0 < int(outcome) < len(act.fields[1])
+        yield Told(refused=len(act.fields[1]) if is_part else float("inf"))
+
+
 # ---- limits
+
+
+def is_larger_piece(it: Difference) -> bool:
+    """A write to a pipe of more bytes than PIPE_BUF of the profile, which goes in whole or not at all on the system: it
+    has no room for all of them, though an empty pipe has."""
+    if not it.words("write") or not it.at or not it.at.pipe or not it.at.nonblock or it.system != "error EAGAIN":
+        return False
+    is_piece = PIPE_BUF < it.count() <= it.at.pipe.capacity and it.fdref.isdigit() and int(it.fdref) < it.count()
+    return is_piece and it.count() < min(one.refused for one in pieces_told(it.lines))
 
 
 def is_more_descriptors(it: Difference) -> bool:
@@ -175,6 +191,7 @@ LIMITS = [
     Reason("too many files open in the system", OWN, "pages of open and pipe", is_many_files),
     Reason("no room for a child", OWN, "page of fork", is_no_process),
     Reason("names of at most 64 bytes that are too long", OWN, "XBD limits.h, _POSIX_NAME_MAX", is_long_name),
+    Reason("PIPE_BUF is more than 512 bytes", OWN, "pages of limits.h and write", is_larger_piece),
 ]
 
 

@@ -1064,6 +1064,10 @@ def capacity_cases(program: str) -> Iterator[Case]:
     full += "40 41 p0 write 1 62*5000 = error EAGAIN\n"
     paged = "fdref answers 5000\nreason: room of a pipe that is counted in pages (own; page of write)"
     yield "no page that is free", partial(ends_with, program, full, 0, paged, "--pipe-capacity", "65536")
+    for text, call in NO_PIECES:
+        yield f"no larger PIPE_BUF: {text}", partial(fails, program, text, 1, f"{call}\n", "--pipe-capacity", "1024")
+    for text in PIECES_WHOLE:
+        yield f"a larger PIPE_BUF: {text}", partial(ends_with, program, text, 0, PIECE, "--pipe-capacity", "1024")
     yield from page_cases(program)
     page = f"{PIPED}4 5 p0 fork = 1\n6 7 p1 attach = ok\n8 9 p0 setfl 1 -,nonblock = ok\n"
     page += "10 11 p0 write 1 61*9000 = 4096\n12 20 p0 write 1 x61 = error EAGAIN\n"
@@ -1077,6 +1081,25 @@ def capacity_cases(program: str) -> Iterator[Case]:
     yield "a pipe of 4,096 bytes, which may be a reason", partial(ends_with, program, bare, 1, hint)
     room, end = ("--pipe-capacity", "4096"), "p0 write 1 x61 = error EAGAIN"
     yield "a pipe of 4,096 bytes, as is told", partial(ends_with, program, page, 0, f"7 {end}", *room)
+
+
+# Writes to a pipe of 1,024 bytes that go in whole or not at all, though they are of more than 512 bytes, with calls that
+# overlap and without; and the nearest that are wrong, with the call that is to blame: all is written later, it is more
+# than the pipe holds, one of fewer bytes was cut, there is room, and without nonblock.
+PIECE = "reason: PIPE_BUF is more than 512 bytes (own; pages of limits.h and write)"
+WHOLE = f"{TWO}8 9 p0 setfl 1 -,nonblock = ok\n10 11 p0 write 1 61*724 = 724\n20 30 p0 write 1 62*600 = error EAGAIN\n"
+PIECES_WHOLE = [
+    f"{WHOLE}40 41 p1 read 0 1024 = 61*724\n",
+    f"{WHOLE}22 29 p1 getfl 0 = 1\n40 41 p1 read 0 1024 = 61*724\n",
+    f"{WHOLE}40 41 p0 write 1 63*601 = 300\n",
+]
+NO_PIECES = [
+    (f"{WHOLE}40 41 p1 read 0 1024 = x{'61' * 724}{'62' * 300}\n", "x" + "61" * 724 + "62" * 300),
+    (WHOLE.replace("62*600", "62*1025"), "62*1025 = error EAGAIN"),
+    (f"{WHOLE}40 41 p0 write 1 63*599 = 300\n", "62*600 = error EAGAIN"),
+    (WHOLE.replace("724", "424"), "62*600 = error EAGAIN"),
+    (WHOLE.replace("-,nonblock", "-"), "62*600 = error EAGAIN"),
+]
 
 
 # Writes that wait though there is room for the rest in each pipe, as the reads tell: with the nearest that may wait, of
