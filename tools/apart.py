@@ -438,6 +438,8 @@ class Excuses:
         ends a call that waits may keep its process from all that comes later: so the reasons are looked for in others,
         too."""
         placed, found = self.found_by_ends(limits, why)
+        if not found and may_wait_for_room(self.history) and may_be_larger(limits):
+            placed, found = self.found_by_ends(ROOMY, why)
         is_short = not found and is_out_of_room(self.history, limits, why)
         return (placed, found) if found else self.found_by_search(ROOMY if is_short else limits, why)
 
@@ -516,6 +518,11 @@ def beside_choice(
     found = list(differences(placed, chosen.limits, why))
     is_all = all(it.reason and it.reason.who == OWN and it.noted in known.values() for it in found)
     return (chosen, placed, found) if found and is_all else None
+
+
+def may_wait_for_room(history: Iterable[Noted]) -> bool:
+    """Whether a write of a history waits at its end."""
+    return any(noted.act.word == "write" and noted.outcome == WAITS for noted in history)
 
 
 def may_append(history: Iterable[Noted]) -> bool:

@@ -430,7 +430,9 @@ def is_paged_room(it: Difference) -> bool:
         return False
     # how many bytes of a large write have gone in is not seen on the system while it waits
     is_less = fdref > 0 if it.system == "parked ?" else moved(it.system) < fdref
-    return is_less and held > 0 and held + it.count() > pipe.capacity // 2 - it.page and not room_left(it)
+    is_past = it.system == "parked ?" and it.count() > pipe.capacity
+    is_less = is_less and (held > 0 or is_past)
+    return is_less and held + it.count() > pipe.capacity // 2 - it.page and not room_left(it)
 
 
 def is_paged_resume(it: Difference, call: plain_model.WaitingWrite) -> bool:

@@ -65,6 +65,7 @@ from support.histories import BadHistory, Noted, form, history_text, read_histor
 from support.ordering import (
     ROOMY,
     SECONDS,
+    SHRINK_SECONDS,
     STATES_MOST,
     By,
     ByEarlyEnd,
@@ -78,6 +79,7 @@ from support.ordering import (
     Result,
     Unexplained,
     by_choice,
+    by_room,
     explain,
     with_overlapping,
 )
@@ -232,12 +234,17 @@ class Orders:
         if both:
             return self.chosen_beside(*both)
         found = next(filter(None, (apart.possible(ordered, limits, why) for why in whys)), None)
-        if apart.is_out_of_room(ordered, limits, whys[0]) and not found:
-            result = self.explained(history, ROOMY)
-            if isinstance(result, Unexplained):
-                return result._replace(page=f"{result.page}, {WHERE_ROOMY}")
         result = self.explained(history, limits)
+        if not found and (apart.is_out_of_room(ordered, limits, whys[0]) or self.is_by_room(result)):
+            other = self.explained(history, ROOMY)
+            if isinstance(other, Unexplained):
+                return other._replace(page=f"{other.page}, {WHERE_ROOMY}")
         return self.departed_before(history, result, whys) or self.with_perhaps(ordered, result, found)
+
+    def is_by_room(self, result: Result) -> bool:
+        """Whether larger pipes explain a part of a history, so that the call that is to blame is another one."""
+        is_open = apart.may_be_larger(self.args.limits) and isinstance(result, Unexplained)
+        return is_open and by_room(result.shrunk, self.args.states, SHRINK_SECONDS) is not None
 
     def departed(self, result: Result, placed: Sequence[Noted], departs: apart.Apart) -> Result:
         """What is told of calls that overlap, where the system departs from the standard in a known way: the call that
@@ -271,8 +278,11 @@ class Orders:
         if not found or not found.reason or not isinstance(result, Unexplained):
             return result
         self.confirm(ordered, found)
-        hint = CAPACITY if apart.is_of_room(found.reason) and not self.has_room else ""
-        return self.with_reason(result, told_reason(found.reason, "perhaps") + hint)
+        return self.with_reason(result, told_reason(found.reason, "perhaps") + self.hint(found))
+
+    def hint(self, it: apart.Apart) -> str:
+        """What is told where the reason of a call is how many bytes a pipe holds, which may be said."""
+        return CAPACITY if apart.is_of_room(it.reason) and not self.has_room else ""
 
     def with_reason(self, result: Result, why: str) -> Result:
         """What is told where no order explains a history, and then why that may be."""
@@ -283,7 +293,7 @@ class Orders:
         first = {it.reason: it for it in reversed(found)}
         told = ["no order explains it, by a choice of fdref's own"]
         for it in reversed(first.values()):
-            told += [f"  {it.noted.text()}", self.answered(it) + where, told_reason(it.reason)]
+            told += [f"  {it.noted.text()}", self.answered(it) + where, told_reason(it.reason) + self.hint(it)]
         if after and not found[-1].is_settled:
             told.append(f"the rest is not compared, {several(len(after), 'call')}")
         return Chosen("\n".join([*told, ""]))

@@ -97,6 +97,7 @@ FILED = f"{JOINED}2 3 p0 open a rw,creat = 0\n"
 PIPED = f"{JOINED}2 3 p0 pipe = 0 1\n"
 ENDS = f"{JOINED}2 3 p1 join = 1\n4 5 p0 mkfifo f = ok\n6 7 p0 open f r,nonblock = 0\n8 9 p1 open f w = 0\n"
 NONBLOCK = f"{PIPED}4 5 p0 setfl 1 -,nonblock = ok\n6 7 p0 write 1 61*65000 = 65000\n"
+HINT = "; --pipe-capacity tells how many bytes a pipe of the system holds"
 COUNT = "more than 65,536 bytes in a call (own; pages of read and write)"
 FLAGS = "flags that the standard leaves undefined (own; page of open)"
 REFUSALS = "order of refusals, where several are due (own; XSH 2.3)"
@@ -120,7 +121,7 @@ CHOICES = [
         NONBLOCK,
         "8 9 p0 write 1 62*1000 = error EAGAIN",
         "536, where a pipe has room for 65,536 bytes",
-        "room of a pipe that is counted in pages (own; page of write)",
+        f"room of a pipe that is counted in pages (own; page of write){HINT}",
     ),
 ]
 BOTH_WAYS = "a pipe that goes both ways (own; page of pipe)"
@@ -322,7 +323,7 @@ CONSISTENT = [
     (FILED, f"40 41 p0 pwrite 0 {2**32} x61 = error EFBIG", "1", SMALLER, f"42 43 p0 ftruncate 0 {2**32} = ok"),
     (FILED, "40 41 p0 unlink abcdefghijklmno = error ENAMETOOLONG", "error ENOENT", LONG, "42 43 p0 mkfifo b = ok"),
 ]
-ROOM = "room of a pipe (own; page of write)"
+ROOM = f"room of a pipe (own; page of write){HINT}"
 WHERE_ROOMY = "where a pipe has room for 65,536 bytes"
 CONSISTENT += [
     (HELD_NONBLOCK, "20 21 p0 write 1 61*600 = 1", f"600, {WHERE_ROOMY}", ROOM, f"21 21 p0 read 0 1 = x61\n{AGAIN}"),
@@ -454,7 +455,7 @@ IN_ANOTHER_ORDER = [
     (f"{READ_FIRST}42 43 p0 pread 1 0 1 = error ESPIPE\n", "error EBADF", REFUSALS),
     (f"{OPEN_FIRST}42 43 p1 write 0 x616263 = 3\n44 45 p1 fstat 0 = fifo 0 1\n", "fifo 3 1", STAT),
     (LINKED, "error ENOENT", REFUSALS),
-    (FILLED, "100, where a pipe has room for 65,536 bytes", "room of a pipe (own; page of write)"),
+    (FILLED, "100, where a pipe has room for 65,536 bytes", ROOM),
     (SET, "67", LEFT_OUT),
     (WITHOUT_SPACE, "0", "no space in the file system (own; pages of open, mkfifo, link, rename and write)"),
 ]
@@ -547,9 +548,8 @@ def is_bare(program: str, text: str, answer: str) -> None:
 
 def reason_cases(program: str) -> Iterator[Case]:
     """Histories that no order explains, each with its reason, or with what fdref answers."""
-    room = "room of a pipe (own; page of write)"
     roomy = "where a pipe has room for 65,536 bytes"
-    less = [(before, call, f"{answer}, {roomy}", room) for before, call, answer in LESS_ROOM]
+    less = [(before, call, f"{answer}, {roomy}", ROOM) for before, call, answer in LESS_ROOM]
     for before, call, answer, reason in [*CHOICES, *less, *NO_BYTES, *LIMITS]:
         yield f"a choice: {call}", partial(prints, program, f"{before}{call}\n", 0, chosen(call, answer, reason))
     for before, call, answer, end in [*UNCHOSEN, *((*it, WRITE) for it in UNROOMY)]:
@@ -1073,21 +1073,36 @@ def capacity_cases(program: str) -> Iterator[Case]:
     page += "10 11 p0 write 1 61*9000 = 4096\n12 20 p0 write 1 x61 = error EAGAIN\n"
     page += "15 18 p1 write 1 x61 = error EAGAIN\n"
     own = "fdref answers 9000, where a pipe has room for 65,536 bytes, in an order that explains the others\n"
-    own += "reason: room of a pipe (own; page of write)"
+    own += f"reason: {ROOM}"
     yield "a pipe of 4,096 bytes", partial(ends_with, program, page, 0, own)
     bare = f"{page}21 22 p1 read 7 1 = x61\n"
-    hint = "perhaps: room of a pipe (own; page of write); "
-    hint += "--pipe-capacity tells how many bytes a pipe of the system holds"
-    yield "a pipe of 4,096 bytes, which may be a reason", partial(ends_with, program, bare, 1, hint)
+    yield "a pipe of 4,096 bytes, which may be a reason", partial(ends_with, program, bare, 1, f"perhaps: {ROOM}")
     room, end = ("--pipe-capacity", "4096"), "p0 write 1 x61 = error EAGAIN"
     yield "a pipe of 4,096 bytes, as is told", partial(ends_with, program, page, 0, f"7 {end}", *room)
+    last = f"reason: {ROOM}"
+    yield "a write that waits at a pipe of 4,096 bytes", partial(ends_with, program, PAST_PAGE, 0, last)
+    paged = "reason: room of a pipe that is counted in pages (own; page of write)"
+    yield "a write that waits at a page", partial(ends_with, program, PAST_PAGE, 0, paged, *room)
+    for text, capacity in NOT_PAST_PAGE:
+        case = partial(fails, program, text, 1, "page of write", "--pipe-capacity", capacity)
+        yield f"a write that does not wait at a page: {text}", case
+    bare = f"{PAST_PAGE}40 41 p1 read 0 4000 = 61*1000\n"
+    yield "a write that waits in vain", partial(fails, program, bare, 1, WOKEN)
 
 
-# Writes to a pipe of 1,024 bytes that go in whole or not at all, though they are of more than 512 bytes, with calls that
-# overlap and without; and the nearest that are wrong, with the call that is to blame: all is written later, it is more
+# A write that waits, of which a part is read, as it does at a pipe of one page of 4,096 bytes; and where it does not,
+# at a pipe of so many bytes.
+PAST_PAGE = f"{TWO}20 - p0 write 1 61*5000 = parked ?\n30 31 p1 read 0 4000 = 61*4000\n"
+NOT_PAST_PAGE = [(PAST_PAGE, "8192"), (PAST_PAGE.replace("4000", "4096"), "4096")]
+WOKEN = "page of write: it waits until there is room, or no reader"
+
+
+# Writes to a pipe of 1,024 bytes that go in whole or not at all, though they are of more than 512 bytes, with calls
+# that overlap and without; and the nearest that are wrong, with the call that is to blame: a part is read, it is more
 # than the pipe holds, one of fewer bytes was cut, there is room, and without nonblock.
 PIECE = "reason: PIPE_BUF is more than 512 bytes (own; pages of limits.h and write)"
-WHOLE = f"{TWO}8 9 p0 setfl 1 -,nonblock = ok\n10 11 p0 write 1 61*724 = 724\n20 30 p0 write 1 62*600 = error EAGAIN\n"
+WHOLE = f"{TWO}8 9 p0 setfl 1 -,nonblock = ok\n10 11 p0 write 1 61*724 = 724\n"
+WHOLE += "20 30 p0 write 1 62*600 = error EAGAIN\n"
 PIECES_WHOLE = [
     f"{WHOLE}40 41 p1 read 0 1024 = 61*724\n",
     f"{WHOLE}22 29 p1 getfl 0 = 1\n40 41 p1 read 0 1024 = 61*724\n",
@@ -1129,12 +1144,12 @@ MAY_WAIT = [
     f"{READ_AGAIN}?\n",
     f"{OTHER_READ}30 31 p1 read 2 600 = 61*600\n",
 ]
-# Writes to a pipe of so many bytes that have no room, though reads have emptied a page, whatever order calls at once take
-# and whichever size a page has; and the nearest that have a reason: no page was emptied, or perhaps none.
+# Writes to a pipe of so many bytes that have no room, though reads have emptied a page, whatever order calls at once
+# take and whichever size a page has; and the nearest that have a reason: no page was emptied, or perhaps none.
 EMPTIED = f"{TWO}10 11 p0 write 1 61*4096 = 4096\n12 13 p0 write 1 61*4096 = 4096\n"
 EMPTIED += "20 - p0 write 1 62*600 = parked ?\n30 31 p1 read 0 4096 = 61*4096\n"
-BOTH_FILL = f"{TWO}8 9 p0 fork = 2\n10 11 p2 attach = ok\n12 15 p0 write 1 61*100 = 100\n12 15 p1 write 1 61*4096 = 4096\n"
-BOTH_FILL += "20 - p0 write 1 61*4096 = parked ?\n30 31 p2 read 0 4096 = 61*4096\n"
+BOTH_FILL = f"{TWO}8 9 p0 fork = 2\n10 11 p2 attach = ok\n12 15 p0 write 1 61*100 = 100\n"
+BOTH_FILL += "12 15 p1 write 1 61*4096 = 4096\n20 - p0 write 1 61*4096 = parked ?\n30 31 p2 read 0 4096 = 61*4096\n"
 SIXTEEN = "".join(f"{at} {at} p0 write 1 61*4096 = 4096\n" for at in range(10, 26))
 SIXTEEN = f"{TWO}{SIXTEEN}40 - p0 write 1 62*600 = parked ?\n50 51 p1 read 0 32768 = 61*32768\n"
 PART_WAITS = EMPTIED.replace("62*600", "62*4097")
