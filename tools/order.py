@@ -21,8 +21,9 @@ then: `a write of more than 512 bytes in parts (own)`. And so it does which end 
 that is the writing one, dup2 and close are added, and the ends change places.
 Left open, too, is how much a write of more than 512 bytes has moved that waits and ends early, since the last reader
 has gone. Where calls overlap, and no order explains them else, such a write is two in an order: one of what it gave,
-and one of the rest, which is EPIPE: `how much a write has moved that ends early (own)`. A call on a pipe of more than
-65,536 bytes, which fdref does not take, is one or two of fewer then: `more than 65,536 bytes in a call (own)`.
+and one of the rest, which is EPIPE: `how much a write has moved that ends early (own)`. Where nonblock is set while it
+waits, it may end with what it has moved: `nonblock set while a write waits (own)`. A call on a pipe of more than 65,536
+bytes, which fdref does not take, is one or two of fewer then: `more than 65,536 bytes in a call (own)`.
 Left open, last, is what reads of one pipe get that are made at once. Where no order explains them else, they may take
 its bytes by turns, any number at a time, and leave some of them: `how reads of a pipe at once share its bytes (own)`.
 That excuses no byte that is lost, given twice, from nowhere or out of its order, no end of file and no EAGAIN, and no
@@ -74,6 +75,7 @@ from support.ordering import (
     ByRoom,
     ByShares,
     ByTransfer,
+    ByUnblocked,
     Explained,
     GivenUp,
     Result,
@@ -107,6 +109,9 @@ BY_EPIPE = "reason: EPIPE of a write that has moved a part (own; page of write)"
 # What is told of a history that only writes explain that end early after other bytes than in fdref, and its reason.
 EARLY = "where a write whose last reader goes has moved as much as it gave"
 BY_EARLY_END = "reason: how much a write has moved that ends early (own; page of write)"
+# What is told of a history that only writes explain that end early since nonblock is set, and its reason.
+UNBLOCKED = "where a write that waits ends with what it has moved, as nonblock is set meanwhile"
+BY_UNBLOCKED = "reason: nonblock set while a write waits (own; pages of fcntl and write)"
 # What is told of a history that only calls explain of more bytes than fdref takes, and its reason.
 PAST_MOST = "where calls of more than 65,536 bytes are others, which fdref takes"
 BY_TRANSFER = "reason: more than 65,536 bytes in a call (own; pages of read and write)"
@@ -138,11 +143,23 @@ TOLD: dict[type, tuple[str, str]] = {
     ByParts: (IN_PARTS, BY_PARTS),
     ByEpipe: (WITH_EPIPE, BY_EPIPE),
     ByEarlyEnd: (EARLY, BY_EARLY_END),
+    ByUnblocked: (UNBLOCKED, BY_UNBLOCKED),
     ByTransfer: (PAST_MOST, BY_TRANSFER),
     ByShares: (SHARED, BY_SHARES),
 }
 # The kinds of answers, in the order in which they are counted.
-KINDS = (Explained, Unexplained, GivenUp, ByRoom, ByParts, ByEpipe, ByEarlyEnd, ByTransfer, ByShares, Chosen)
+KINDS = (Explained, Unexplained, GivenUp, *TOLD, Chosen)
+# What is told of how often each of the others was met.
+COUNTED = (
+    "room of a pipe",
+    "writes in parts",
+    "EPIPE after a part",
+    "writes that end early",
+    "nonblock set while a write waits",
+    "more than 65,536 bytes",
+    "reads that share",
+    "other choices",
+)
 
 
 class Orders:
@@ -346,15 +363,10 @@ class Orders:
 
     def totals(self) -> str:
         """The last line."""
-        explained, unexplained, given_up, roomy, parted, broken, early, larger, shared, chosen = self.counts.values()
+        explained, unexplained, given_up, *others = self.counts.values()
         text = f"histories {sum(self.counts.values())} explained {explained} unexplained {unexplained} "
-        text += f"given up {given_up}" + (f" room of a pipe {roomy}" if roomy else "")
-        text += f" writes in parts {parted}" if parted else ""
-        text += f" EPIPE after a part {broken}" if broken else ""
-        text += f" writes that end early {early}" if early else ""
-        text += f" more than 65,536 bytes {larger}" if larger else ""
-        text += f" reads that share {shared}" if shared else ""
-        return text + (f" other choices {chosen}" if chosen else "")
+        more = (f" {what} {count}" for what, count in zip(COUNTED, others, strict=True) if count)
+        return f"{text}given up {given_up}{''.join(more)}"
 
     def status(self) -> int:
         """The exit status."""

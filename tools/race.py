@@ -253,6 +253,7 @@ REASONS: list[Reason | WayReason] = [
     WayReason("a write of more than 512 bytes in parts (own)", "page of write", ordering.by_parts),
     WayReason("EPIPE of a write that has moved a part (own)", "page of write", ordering.by_epipe),
     WayReason("how much a write has moved that ends early (own)", "page of write", ordering.by_early_end),
+    WayReason("nonblock set while a write waits (own)", "pages of fcntl and write", ordering.by_unblocked),
     WayReason("more than 65,536 bytes in a call (own)", "pages of read and write", ordering.by_transfer),
     WayReason("how reads of a pipe at once share its bytes (own)", "page of read", ordering.by_shares),
 ]

@@ -828,6 +828,21 @@ NO_EARLY_ENDS = [
 ]
 
 
+# A write that ends with what it has moved, as nonblock is set while it waits, in a pipe of 1,024 bytes; and the nearest
+# that are wrong: that is set later, or of the other end, more than there was room for, one that goes in at once, and
+# one that never was to wait.
+SET_MEANWHILE = f"{TWO}20 60 p0 write 1 61*3000 = 1500\n30 31 p1 setfl 1 -,nonblock = ok\n"
+SET_MEANWHILE += "40 41 p1 read 0 476 = 61*476\n"
+BY_UNBLOCKED = "reason: nonblock set while a write waits (own; pages of fcntl and write)"
+NOT_SET_MEANWHILE = [
+    SET_MEANWHILE.replace("30 31", "70 71"),
+    SET_MEANWHILE.replace("setfl 1", "setfl 0"),
+    SET_MEANWHILE.replace("= 1500", "= 1501"),
+    SET_MEANWHILE.replace("61*3000 = 1500", "61*500 = 100"),
+    SET_MEANWHILE.replace("30 31", "8 9").replace("= 1500", "= 100"),
+]
+
+
 # Calls on pipes of more bytes than fdref takes, which overlap others. The nearest that are wrong: more moved than there
 # is room for, with a reader left and without, one that waits for no reason or not, and another byte is read.
 OVER = f"{LONE}20 90 p0 write 1 61*65700 = 65536\n30 40 p1 read 0 10 = 61*10\n50 60 p1 close 0 = ok\n"
@@ -973,6 +988,14 @@ def part_cases(program: str) -> Iterator[Case]:
         yield f"does not end early: {text}", partial(fails, program, text, 1, "no order explains it")
     counted = "histories 2 explained 1 unexplained 0 given up 0 writes that end early 1"
     yield "ends early, counted", partial(ends_with, program, f"{CUT_OFF}\n{GOOD}", 0, counted)
+    known = ("--pipe-capacity", "1024")
+    yield "ends as nonblock is set", partial(ends_with, program, SET_MEANWHILE, 0, BY_UNBLOCKED, *known)
+    for text in NOT_SET_MEANWHILE:
+        case = partial(fails, program, text, 1, "no order explains it", *known)
+        yield f"ends though nonblock is not set: {text}", case
+    counted = "histories 2 explained 1 unexplained 0 given up 0 nonblock set while a write waits 1"
+    both = f"{SET_MEANWHILE}\n{GOOD}"
+    yield "ends as nonblock is set, counted", partial(ends_with, program, both, 0, counted, *known)
     for text in PAST_MOST:
         yield f"more than fdref takes: {text}", partial(ends_with, program, text, 0, BY_TRANSFER)
     for text in NOT_PAST_MOST:

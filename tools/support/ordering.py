@@ -16,7 +16,7 @@ from support.guesses import with_guesses
 from support.histories import UNKNOWN, WAITS, Noted
 from support.late_links import late_links
 from support.pieces import are_cut_off, are_of_pipes, chunked, clipped, ended_early, in_parts, is_past_most
-from support.pieces import Rewrite, rests_in, rewritten
+from support.pieces import Rewrite, rests_in, rewritten, unblocked
 from support.plain_model import DEFAULTS, PIPE_BUF, PIPE_CAPACITY_MOST, Limits
 from support.searching import Search, Step, TooLong
 from support.sharing import Sharing, are_of_one_pipe, in_turns
@@ -78,6 +78,15 @@ class ByEarlyEnd(NamedTuple):
     limits: Limits
 
 
+class ByUnblocked(NamedTuple):
+    """A history that an order explains only where a write to a pipe that waits ends early, since nonblock is set: the
+    history in which it is a write of what was told, the steps of that order, and the limits of its run."""
+
+    history: list[Noted]
+    steps: list[Step]
+    limits: Limits
+
+
 class ByTransfer(NamedTuple):
     """A history that an order explains only where calls move more bytes than fdref takes: the history in which these
     are calls that it takes, the steps of that order, and the limits of its run."""
@@ -112,7 +121,7 @@ class GivenUp(NamedTuple):
 
 
 Result = Explained | Unexplained | GivenUp
-By = ByRoom | ByParts | ByEpipe | ByEarlyEnd | ByTransfer | ByShares
+By = ByRoom | ByParts | ByEpipe | ByEarlyEnd | ByUnblocked | ByTransfer | ByShares
 
 
 def explain(
@@ -192,6 +201,18 @@ def by_early_end(
     return ByEarlyEnd(*found) if found else None
 
 
+def by_unblocked(
+    history: Sequence[Noted], states_most: int = STATES_MOST, seconds: float = SECONDS, *limits: Limits
+) -> ByUnblocked | None:
+    """An order of a history that explains it where large writes that wait end early, after as many bytes as they gave,
+    since nonblock is set on their descriptions, if there is one, in a run of the first of these limits that has one."""
+    is_set = any(noted.act.word == "setfl" and "nonblock" in noted.act.fields[1] for noted in history)
+    if not is_set or any(map(is_past_most, history)):
+        return None
+    found = by_rewriting(history, unblocked, states_most, seconds, *limits)
+    return ByUnblocked(*found) if found else None
+
+
 def by_transfer(
     history: Sequence[Noted], states_most: int = STATES_MOST, seconds: float = SECONDS, *limits: Limits
 ) -> ByTransfer | None:
@@ -252,8 +273,8 @@ def by_choice(
     found = found or by_parts(history, *most, *rooms) or by_epipe(history, *most, *rooms)
     if found or not are_at_once:
         return found
-    others = by_early_end(history, *most, *rooms) or by_transfer(history, *most, *rooms)
-    others = others or by_shares(history, *most, *rooms)
+    others = by_early_end(history, *most, *rooms) or by_unblocked(history, *most, *rooms)
+    others = others or by_transfer(history, *most, *rooms) or by_shares(history, *most, *rooms)
     guessed = None if others else with_guesses(sorted(history, key=lambda noted: noted.start))
     return (by_parts(guessed, *most, *rooms) or by_shares(guessed, *most, *rooms)) if guessed else others
 

@@ -112,6 +112,8 @@ def rests_in(history: Sequence[Noted], parted: Iterable[Noted]) -> list[Noted]:
 
 # ---- writes that end early, and calls of more bytes than fdref takes
 
+# What getfl tells of an end of a pipe for writing, which waits or does not.
+WAITING, NOT_WAITING = "2", "66"
 # What calls a call is given to fdref as.
 Rewrite = Callable[[Noted], list[Noted]]
 
@@ -138,6 +140,15 @@ def ended_early(noted: Noted) -> list[Noted]:
     first = noted._replace(act=with_data(noted.act, data[:moved]))
     rest = noted._replace(act=with_data(noted.act, data[moved:][:TRANSFER_MAX]), outcome="error EPIPE")
     return [*chunks(first), rest]
+
+
+def unblocked(noted: Noted) -> list[Noted]:
+    """A short write as one of what it moved, while its descriptor waits at first and does not in the end."""
+    if not is_short(noted):
+        return [noted]
+    first = noted._replace(act=with_data(noted.act, noted.act.fields[1][: int(noted.outcome)]))
+    asks = noted.act._replace(word="getfl", fields=noted.act.fields[:1])
+    return [noted._replace(act=asks, outcome=WAITING), *chunks(first), noted._replace(act=asks, outcome=NOT_WAITING)]
 
 
 def chunks(noted: Noted) -> list[Noted]:
