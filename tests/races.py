@@ -450,6 +450,15 @@ REPLACED = [
     ("100 150 p0 rename b a = ok", None),
     ("100 900 p0 unlink a = ok", None),
 ]
+# What two processes do at once with the ends of a pipe, and with a FIFO, that is a choice of the system's own or none.
+NO_BLOCK = "150 160 p1 setfl 1 -,nonblock = ok\n200 300 p1 read 0 476 = 61*476"
+FOR_BOTH = "10 11 p0 mkfifo q = ok\n12 13 p0 open q rw = 2\n100 900 p0 write 2 x61 = 1"
+OWN_OF_PIPES = [
+    (f"100 900 p0 write 1 61*3000 = 1500; {NO_BLOCK}", "nonblock set while a write waits (own)"),
+    (f"100 900 p0 write 1 61*3000 = 1500; {NO_BLOCK.replace('setfl 1', 'setfl 0')}", None),
+    (f"{FOR_BOTH}; 920 950 p0 read 2 1 = x61", "a FIFO opened for both (own)"),
+    (f"{FOR_BOTH}; 920 950 p0 getfl 2 = 64", None),
+]
 
 
 def has_reason(before: list[str], one: str, other: str, reason: str | None, page: int = 4_096) -> None:
@@ -483,6 +492,9 @@ def reason_cases() -> Iterator[Case]:
     torn = "100 900 p0 write 1 61*600 = 600", "200 300 p1 read 0 100 = 61*100\n400 500 p1 read 0 600 = 61*400"
     yield "a write in parts", partial(has_reason, PIPED[:-1], *torn, "a write of more than 512 bytes in parts (own)")
     yield "a small one in parts", partial(has_reason, PIPED[:-1], *(it.replace("61*600 = 600", "61*512 = 512") for it in torn), None)
+    for text, reason in OWN_OF_PIPES:
+        first, second = text.split("; ")
+        yield f"{first} and {second}", partial(has_reason, PIPED[:-1], first, second, reason)
     yield "a larger pipe, in vain", partial(has_reason, PIPED, large, "200 300 p1 read 0 2 = x6162", None)
 
 

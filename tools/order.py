@@ -61,6 +61,7 @@ from pathlib import Path
 from typing import NamedTuple
 
 from support import pages
+from support.both_ways import is_for_both, may_be_for_both, opens_for_both, without_fifos
 from support.commands import ChosenLimits, add_capacity, add_program, program_of
 from support.histories import BadHistory, Noted, form, history_text, read_histories
 from support.ordering import (
@@ -90,6 +91,7 @@ from support.plain_model import Limits
 from support.replaying import Differs, verified
 from support.running import CannotRun
 from support.runs import Line
+from support.searching import Step
 from support.texts import several
 
 import apart
@@ -118,6 +120,11 @@ BY_TRANSFER = "reason: more than 65,536 bytes in a call (own; pages of read and 
 # What is told of a history that only reads explain which share the bytes of a pipe, and its reason.
 SHARED = "where reads of a pipe at once take its bytes by turns, each byte once and in order"
 BY_SHARES = "reason: how reads of a pipe at once share its bytes (own; page of read)"
+# What is told of a history in which a FIFO is opened for reading and writing.
+NO_ORDER_BY_CHOICE = "no order explains it, by a choice of fdref's own"
+BY_BOTH = "reason: a FIFO opened for both (own; page of open)"
+NOT_COMPARED = "what is read and written there is not compared"
+NOT_FOR_BOTH = "that is told where a FIFO may be opened for both, whatever is read and written there"
 # What is told of a history in which the writing end of a pipe has the lower number.
 TURNED = "where the ends of a pipe change places, by dup2 and close"
 BY_TURN = "reason: which end of a pipe has the lower number (own; page of pipe)"
@@ -206,7 +213,48 @@ class Orders:
         that go in at once or by parts, and if not why."""
         most = self.args.states, self.args.seconds
         result = explain(history, *most, shrink_seconds=0, limits=self.args.limits)
-        return self.by_choice(history) or self.unexplained(history) if isinstance(result, Unexplained) else result
+        if not isinstance(result, Unexplained):
+            return result
+        return self.by_choice(history) or self.for_both(history) or self.unexplained(history)
+
+    def for_both(self, history: Sequence[Noted]) -> Result | Chosen | None:
+        """What is told of a history in which a FIFO is opened for both, if there is one: where an order explains it in
+        which that is done, that this is a choice; else why none does, whatever such a FIFO gives, which is left open."""
+        if not may_be_for_both(history):
+            return None
+        left = without_fifos(history)
+        with opens_for_both():
+            whole = self.besides(history)
+            found = whole or self.besides(left)
+            result = None if found else self.explained(left, self.args.limits)
+        if result:
+            return self.with_reason(result, NOT_FOR_BOTH)
+        told, steps = found or ([], [])
+        first = next((at for at, step in enumerate(steps) if is_for_both(Noted(0, 0, *step))), None)
+        if first is None:
+            return None
+        before = [Noted(at, at, *step) for at, step in enumerate(steps[: first + 1]) if step.act.word != "resume"]
+        apart.confirm(self.program, before, self.args.limits)
+        where = "" if apart.is_one_by_one(history) else IN_ORDER
+        lines = [f"  {it.text()}\nfdref answers error EINVAL{where}" for it in history if is_for_both(it)]
+        told += [] if whole else [f"{NOT_COMPARED}, {several(len(history) - len(left), 'call')}"]
+        return Chosen("\n".join([NO_ORDER_BY_CHOICE, *lines[:1], BY_BOTH, *told, ""]))
+
+    def besides(self, history: Sequence[Noted]) -> tuple[list[str], list[Step]] | None:
+        """The steps of an order that explains a history by no choice, or by one about bytes in pipes, with what is told
+        of that, or by others."""
+        most = self.args.states, self.args.seconds
+        result = explain(history, *most, shrink_seconds=0, limits=self.args.limits)
+        if isinstance(result, Explained):
+            return [], result.steps
+        by = self.by_choice(history)
+        if by:
+            return [TOLD[type(by)][1]], by.steps
+        placed, parted = apart.excused(history, self.args.limits, *most, *whys_of(history))
+        if not parted or any(not it.reason or it.reason.who != OWN for it in parted):
+            return None
+        reasons = dict.fromkeys(told_reason(it.reason) + self.hint(it) for it in parted)
+        return [*reasons], [Step(it.act, it.outcome) for it in placed]
 
     def by_choice(self, history: Sequence[Noted]) -> By | None:
         """An order of a history by a choice of fdref's own about bytes in pipes, if there is one."""
@@ -308,7 +356,7 @@ class Orders:
     def chosen(self, found: Sequence[apart.Apart], after: Sequence[Noted], where: str = "") -> Chosen:
         """What is told of calls that fdref answers otherwise by choices of its own: the first for each reason."""
         first = {it.reason: it for it in reversed(found)}
-        told = ["no order explains it, by a choice of fdref's own"]
+        told = [NO_ORDER_BY_CHOICE]
         for it in reversed(first.values()):
             told += [f"  {it.noted.text()}", self.answered(it) + where, told_reason(it.reason) + self.hint(it)]
         if after and not found[-1].is_settled:

@@ -46,6 +46,7 @@ from pathlib import Path
 from typing import NamedTuple, Self
 
 from support import histories, ordering, outcomes, pages, plain_model, replaying, summaries
+from support.both_ways import by_both_ways
 from support.commands import ChosenLimits, add_capacity, add_program, capacity_words, program_of
 from support.counting import Failure
 from support.drivers import compiled
@@ -256,6 +257,7 @@ REASONS: list[Reason | WayReason] = [
     WayReason("nonblock set while a write waits (own)", "pages of fcntl and write", ordering.by_unblocked),
     WayReason("more than 65,536 bytes in a call (own)", "pages of read and write", ordering.by_transfer),
     WayReason("how reads of a pipe at once share its bytes (own)", "page of read", ordering.by_shares),
+    WayReason("a FIFO opened for both (own)", "page of open", by_both_ways),
 ]
 
 

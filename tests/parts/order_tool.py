@@ -477,6 +477,26 @@ IN_NO_ORDER = [
 ]
 
 
+# FIFOs that are opened for both, after which all else is compared: what is told last of each, and with calls that are
+# wrong, the call that is to blame.
+BOTH = f"{JOINED_TWO}4 5 p0 mkfifo q = ok\n6 7 p0 open q rw = 0\n8 9 p1 open q r = 0\n20 30 p1 read 0 2 = x6162\n"
+BOTH += "21 25 p0 write 0 x616263 = 3\n"
+BY_BOTH = "reason: a FIFO opened for both (own; page of open)"
+NOT_COMPARED = f"{BY_BOTH}\nwhat is read and written there is not compared, "
+FOR_BOTH = [
+    (BOTH, BY_BOTH),
+    (BOTH.replace("6 7", "6 12").replace("8 9", "7 10"), BY_BOTH),
+    (f"{BOTH}40 50 p0 read 0 9 = x63\n60 - p0 read 0 1 = parked ?\n", BY_BOTH),
+    (f"{BOTH}40 41 p0 fstat 0 = fifo 0 1\n", f"{BY_BOTH}\nreason: {STAT}"),
+    (BOTH.replace("= x6162", "= x6163"), f"{NOT_COMPARED}2 calls"),
+    (f"{BOTH}40 41 p0 exit = ok\n42 43 p1 read 0 2 = x63\n44 45 p1 read 0 2 = x\n", BY_BOTH),
+]
+NOT_FOR_BOTH = [
+    (f"{BOTH}40 41 p0 open q rw = 2\n", "40 41 p0 open q rw = 2"),
+    (f"{BOTH}40 50 p0 open a w,creat = 1\n42 43 p1 open a r = 2\n", "42 43 p1 open a r = 2"),
+]
+
+
 # Pipes whose writing end has the lower number: what is told of one, and histories with their status and what is told
 # last.
 TURNED = f"{JOINED}2 3 p0 pipe = 1 0\n"
@@ -585,6 +605,11 @@ def reason_cases(program: str) -> Iterator[Case]:
     yield "while a write waits", partial(ends_with, program, PIECES, 0, end, "--pipe-capacity", "1024")
     for text in IN_NO_ORDER:
         yield f"choices in no order: {text}", partial(fails, program, text, 1, "no order explains it")
+    for text, end in FOR_BOTH:
+        yield f"a FIFO for both: {text}", partial(ends_with, program, text, 0, end)
+    for text, call in NOT_FOR_BOTH:
+        case = partial(fails, program, text, 1, f"overlap it:\n  {call}\n")
+        yield f"a FIFO for both, and what is wrong: {text}", case
     yield "a pipe with its ends the other way round", partial(prints, program, TURNED, 0, TURNED_LINES)
     for text, status, end in TURNS:
         yield f"turned: {text}", partial(ends_with, program, text, status, end)

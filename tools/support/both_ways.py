@@ -1,0 +1,79 @@
+"""FIFOs that are opened for reading and writing, as many a system opens them: at once, with both ends.
+
+The standard leaves it undefined, and fdref refuses it. Here such an open counts as one of each end, so that what comes
+after it can be compared.
+"""
+
+from collections.abc import Iterable, Iterator, Sequence
+from contextlib import contextmanager
+
+from support.footprints import Footprints
+from support.histories import Noted
+from support.ordering import Explained, explain
+from support.plain_model import DESCRIPTIONS_MAX, Description, Fifo, Limits, Pipe, Process, Reply, World
+from support.plain_model import lowest_free, require
+
+ONE_WAY, ENDS_APART = World.open, World.has_end
+
+
+def is_for_both(noted: Noted) -> bool:
+    """Whether a call is an open for reading and writing that was not refused."""
+    is_asked = noted.act.word == "open" and noted.act.fields[1].split(",")[0] == "rw"
+    return is_asked and noted.outcome.isdigit()
+
+
+def may_be_for_both(history: Iterable[Noted]) -> bool:
+    """Whether a FIFO may be opened for both in a history."""
+    calls = list(history)
+    return any(it.act.word == "mkfifo" for it in calls) and any(map(is_for_both, calls))
+
+
+def without_fifos(history: Sequence[Noted]) -> list[Noted]:
+    """A history without the reads and writes of FIFOs that are opened for both."""
+    footprints = Footprints(history)
+    first = footprints.names.first
+    fifos = {first(it.act.fields[0]) for it in history if is_for_both(it)} & footprints.names.fifos
+    both = zip(history, footprints.touches, strict=True)
+    return [it for it, touch in both if it.act.word not in ("read", "write") or not touch.at or touch.at.file not in fifos]
+
+
+def has_end(world: World, pipe: Pipe, end: str) -> bool:
+    """Whether an end of a pipe is open, by itself or with the other one."""
+    tables = (process.table.values() for process in world.processes.values())
+    return any(at.pipe is pipe and end in at.mode for table in tables for at in table)
+
+
+def opened(world: World, process: Process, name: bytes, flags: str) -> Reply:
+    """The call."""
+    fifo = world.names.get(name)
+    mode, *others = flags.split(",")
+    if not isinstance(fifo, Fifo) or mode != "rw" or "excl" in others:
+        return ONE_WAY(world, process, name, flags)
+    fd = lowest_free(process)[0]
+    require(len(world.descriptions()) < DESCRIPTIONS_MAX, "ENFILE")
+    if not world.has_end(fifo.pipe, "r") and not world.has_end(fifo.pipe, "w"):
+        fifo.pipe = world.new_pipe()
+    for end in mode:
+        fifo.opened[end] += 1
+    process.table[fd] = Description(fifo, mode, others, fifo.pipe)
+    return fd
+
+
+@contextmanager
+def opens_for_both() -> Iterator[None]:
+    """FIFOs of the plain model may be opened for both."""
+    World.open, World.has_end = opened, has_end  # type: ignore[assignment]
+    try:
+        yield
+    finally:
+        World.open, World.has_end = ONE_WAY, ENDS_APART  # type: ignore[assignment]
+
+
+def by_both_ways(history: Sequence[Noted], states_most: int, seconds: float, *limits: Limits) -> Explained | None:
+    """An order of a history in which a FIFO is opened for both that explains it where that is done, but for what else
+    such a FIFO gives, if there is one, in a run of the first of these limits that has one."""
+    if not may_be_for_both(history):
+        return None
+    with opens_for_both():
+        results = (explain(without_fifos(history), states_most, seconds, 0, one) for one in limits)
+        return next((it for it in results if isinstance(it, Explained)), None)
