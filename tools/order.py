@@ -60,7 +60,7 @@ from collections.abc import Sequence
 from pathlib import Path
 from typing import NamedTuple
 
-from support import pages
+from support import pages, plain_model
 from support.both_ways import is_for_both, may_be_for_both, opens_for_both, without_fifos
 from support.commands import ChosenLimits, add_capacity, add_program, program_of
 from support.histories import BadHistory, Noted, form, history_text, read_histories
@@ -128,8 +128,13 @@ NOT_FOR_BOTH = "that is told where a FIFO may be opened for both, whatever is re
 # What is told of a history in which the writing end of a pipe has the lower number.
 TURNED = "where the ends of a pipe change places, by dup2 and close"
 BY_TURN = "reason: which end of a pipe has the lower number (own; page of pipe)"
+# The lowest descriptor of a history whose processes have three that are not told, and what is told of them.
+FIRST_LEFT = 3
+BEGINS_AT_0 = "its descriptors begin at 3, and those of fdref at 0: let p0 open a file first, and dup it twice"
 NOT_BY_TURN = f"that is told {TURNED}"
 CAPACITY = "; --pipe-capacity tells how many bytes a pipe of the system holds"
+# The calls that give descriptors which were free.
+GIVE = ("open", "dup", "pipe")
 # What is told of the answers of fdref to calls that overlap others.
 IN_ORDER = ", in an order that explains the others"
 
@@ -195,6 +200,8 @@ class Orders:
             told = self.ordered(history, result)
         else:
             told = self.unordered(result) if is_new else f"as history {first}\n"
+        if isinstance(result, Unexplained) and is_new and lowest(history) == FIRST_LEFT:
+            told += BEGINS_AT_0 + "\n"
         if exchanged and is_new:
             told += (NOT_BY_TURN if isinstance(result, Unexplained) else BY_TURN) + "\n"
         if not (self.args.quiet and (not isinstance(result, Unexplained | GivenUp) or not is_new)):
@@ -218,8 +225,8 @@ class Orders:
         return self.by_choice(history) or self.for_both(history) or self.unexplained(history)
 
     def for_both(self, history: Sequence[Noted]) -> Result | Chosen | None:
-        """What is told of a history in which a FIFO is opened for both, if there is one: where an order explains it in
-        which that is done, that this is a choice; else why none does, whatever such a FIFO gives, which is left open."""
+        """What is told of a history in which a FIFO is opened for both, if there is one: that this is a choice, where
+        an order explains it in which it is done; else why none does, whatever such a FIFO gives, which is left open."""
         if not may_be_for_both(history):
             return None
         left = without_fifos(history)
@@ -430,6 +437,14 @@ def whys_of(history: Sequence[Noted]) -> list[apart.Why]:
     has_pipes = any(noted.act.word in ("pipe", "mkfifo") for noted in history)
     sizes = pages.SIZES if has_pipes and put > pages.SIZES[0] else pages.SIZES[:1]
     return [apart.of_page(size, reason_or_limit) for size in sizes]
+
+
+def lowest(history: Sequence[Noted]) -> int | None:
+    """The lowest descriptor that a call of a history has given, or was made on without an error."""
+    done = [it for it in history if it.end is not None and not it.outcome.startswith("error ")]
+    given = (word for it in done if it.act.word in GIVE for word in it.outcome.split(" ") if word.isdigit())
+    made_on = (it.act.fields[0] for it in done if plain_model.FIELDS.get(it.act.word, ())[:1] == (plain_model.read_fd,))
+    return min([*map(int, given), *made_on], default=None)
 
 
 def moved_line(line: Line) -> str:

@@ -497,6 +497,21 @@ NOT_FOR_BOTH = [
 ]
 
 
+# Histories that are wrong as their descriptors begin at 3, with what is told of that, and such whose do not.
+AT_0 = "its descriptors begin at 3, and those of fdref at 0: let p0 open a file first, and dup it twice"
+FROM_3 = [
+    f"{JOINED}2 3 p0 open a rw,creat = 3\n4 5 p0 write 3 x61 = 1\n",
+    f"{JOINED}2 3 p0 pipe = 3 4\n4 5 p0 close 4 = ok\n",
+    f"{JOINED_TWO}4 9 p0 open a rw,creat = 3\n5 8 p1 open a rw,creat = 3\n",
+    f"{JOINED}4 5 p0 close 3 = ok\n",
+]
+FROM_0 = [
+    f"{JOINED}2 3 p0 open a rw,creat = 1\n",
+    f"{FILED}4 5 p0 dup 0 = 3\n",
+    f"{JOINED}2 3 p0 close 3 = error EINVAL\n",
+]
+
+
 # Pipes whose writing end has the lower number: what is told of one, and histories with their status and what is told
 # last.
 TURNED = f"{JOINED}2 3 p0 pipe = 1 0\n"
@@ -558,6 +573,12 @@ def has_told(program: str, text: str, lines: str) -> None:
     require(ran.status == 0 and f"\n{lines}\n" in ran.stdout.decode(), ran.said())
 
 
+def blames_page(program: str, text: str) -> None:
+    """The tool ends with the page of what is wrong."""
+    ran = told(program, text)
+    require(ran.status == 1 and ran.stdout.decode().splitlines()[-1].startswith("page of"), ran.said())
+
+
 def is_bare(program: str, text: str, answer: str) -> None:
     """The tool tells what fdref answers to a call, and no reason."""
     ran = told(program, text)
@@ -607,6 +628,14 @@ def reason_cases(program: str) -> Iterator[Case]:
         yield f"choices in no order: {text}", partial(fails, program, text, 1, "no order explains it")
     for text, end in FOR_BOTH:
         yield f"a FIFO for both: {text}", partial(ends_with, program, text, 0, end)
+    for text in FROM_3:
+        yield f"descriptors from 3 on: {text}", partial(ends_with, program, text, 1, AT_0)
+    for text in FROM_0:
+        yield f"no descriptors from 3 on: {text}", partial(blames_page, program, text)
+    for call in ("join = error EAGAIN", "attach = error ESRCH"):
+        text = f"{JOINED}2 3 p0 fork = 1\n4 5 p1 {call}\n"
+        end = "docs/PROFILE.md: the other acts (own)"
+        yield f"no page: {call}", partial(ends_with, program, text.replace("p1 join", "p2 join"), 1, end)
     for text, call in NOT_FOR_BOTH:
         case = partial(fails, program, text, 1, f"overlap it:\n  {call}\n")
         yield f"a FIFO for both, and what is wrong: {text}", case

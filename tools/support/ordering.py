@@ -348,8 +348,9 @@ ENDS_OF_WAITING = {
 ATOMIC = """
     close dup2 fstat ftruncate getfl link lseek open pread pwrite read rename setfl unlink write
 """.split()
-# Calls whose page has another name.
-PAGES = {"getfl": "page of fcntl", "setfl": "page of fcntl"}
+# Calls whose page has another name, and acts that have none.
+NO_CALL = "docs/PROFILE.md: the other acts (own)"
+PAGES = {"getfl": "page of fcntl", "setfl": "page of fcntl", "join": NO_CALL, "attach": NO_CALL}
 # What may be wrong with writes of at most PIPE_BUF bytes.
 SEEN_IN_PART = "page of write: at most PIPE_BUF bytes go in at once, and a part of them was seen"
 INTERLEAVED = "page of write: at most PIPE_BUF bytes are not interleaved"
