@@ -553,7 +553,8 @@ def reasons_are_counted(bench: Bench) -> None:
     """Where all histories without an order have a reason, the line of the reason has as many as that of the kind."""
     lines = ["0 1 p0 join = 0", "2 3 p0 pipe = 0 1", "4 5 p0 write 1 61*600 = 600", "6 7 p0 write 1 62*600 = 600"]
     done = tool(bench, "--seconds", "0.5", "--kind", "names", "--driver", made_driver(bench, "roomy", *lines))
-    last = ["room of a pipe (own) (page of write)", "       0 without an order and without a reason"]
+    room = f"room of a pipe (own) (page of write{race.CAPACITY})"
+    last = [room, "       0 without an order and without a reason"]
     same((0, [f"{counted_without(done):8} {last[0]}", last[1]]), (done.status, done.stdout.decode().splitlines()[-2:]))
 
 

@@ -242,6 +242,9 @@ def is_either(race: Race, one: Noted, other: Noted) -> str | None:
     return is_torn(race, one, other) or is_growing(race, one, other)
 
 
+# What is told where the reason is how many bytes a pipe holds, which may be said, and where something else was said.
+CAPACITY = "; --pipe-capacity tells how many bytes a pipe of the system holds"
+OTHER_CAPACITY = "a pipe of the system may hold more or fewer bytes than --pipe-capacity says"
 # Each reason, the narrow ones first: only what was seen on a system.
 REASONS: list[Reason | WayReason] = [
     LinkReason("a link finds its file before it makes the name", "XSH 2.9.7; pages of link and rename", is_never),
@@ -250,7 +253,7 @@ REASONS: list[Reason | WayReason] = [
     Reason("a length grows by pages while a write goes on", "XSH 2.9.7; pages of fstat, lseek and write", is_growing),
     Reason("a read gives a part of what is written meanwhile", "XSH 2.9.7; pages of read and write", is_torn),
     Reason("both at once", "XSH 2.9.7", is_either),
-    RoomReason("room of a pipe (own)", "page of write", is_never),
+    RoomReason("room of a pipe (own)", f"page of write{CAPACITY}", is_never),
     WayReason("a write of more than 512 bytes in parts (own)", "page of write", ordering.by_parts),
     WayReason("EPIPE of a write that has moved a part (own)", "page of write", ordering.by_epipe),
     WayReason("how much a write has moved that ends early (own)", "page of write", ordering.by_early_end),
@@ -476,12 +479,23 @@ def told(history: History) -> str:
     return "\n".join(clipped(f"  {noted.text()}") for noted in history)
 
 
+def is_by_other_room(history: History, limits: Limits) -> bool:
+    """Whether a history that no order explains has a reason where a pipe does not hold as many bytes as was said."""
+    if not isinstance(limits, ChosenLimits):
+        return False
+    most = STATES_MOST, SEARCH_SECONDS
+    _, found = apart.excused(history, Limits(capacity=limits.capacity), *most, reason_or_limit)
+    return any(apart.is_of_room(it.reason) for it in found) or ordering.by_room(history, *most) is not None
+
+
 def tell(found: Unexplained, name: str, limits: Limits) -> None:
     """Tells of a history without an order and without a reason: a short part of it, and the calls to look at."""
     result = explained(found.history, limits, SHRINK_SECONDS)
     if isinstance(result, ordering.Unexplained):
         print(f"{name}: no order explains\n{told(result.shrunk)}\nwhich this call makes impossible", flush=True)
         print(f"{told(result.blamed)}\n{result.page}", flush=True)
+        if is_by_other_room(found.history, limits):
+            print(OTHER_CAPACITY, flush=True)
 
 
 def keep_files(found: Unexplained, name: str, folder: str) -> None:
@@ -638,7 +652,8 @@ def choice(asked: Asked, found: apart.Apart, ordered: Sequence[Noted]) -> Choice
 
 def choice_of(found: apart.Apart) -> Choice | None:
     """The reason of a call that fdref answers otherwise, if it has one."""
-    return Choice(f"{found.reason.name} ({found.reason.who})", found.reason.page) if found.reason else None
+    hint = CAPACITY if apart.is_of_room(found.reason) and not isinstance(found.limits, ChosenLimits) else ""
+    return Choice(f"{found.reason.name} ({found.reason.who})", f"{found.reason.page}{hint}") if found.reason else None
 
 
 def reason_without_order(asked: Asked, script: str, history: History) -> race_table.Reasoned | None:

@@ -247,8 +247,12 @@ def room_is_a_reason_of_times(tools: Tools) -> None:
     Path(words[0]).write_text(f"{ENDS}p0 write 1 61*1000\nrace\np0 write 1 62*1000\np1 read 0 1000\n")
     done = tools.race(*words)
     lines = done.stdout.decode().splitlines()
-    wanted = ["seen, and not allowed at these times", "room of a pipe (own) (page of write)"]
+    room = "room of a pipe (own) (page of write; --pipe-capacity tells how many bytes a pipe of the system holds)"
+    wanted = ["seen, and not allowed at these times", room]
     same((0, wanted), (done.status, [lines[0], lines[2].strip()]))
+    other = "a pipe of the system may hold more or fewer bytes than --pipe-capacity says"
+    done = tools.race(*words, "--pipe-capacity", "1999")
+    same((1, True), (done.status, other in done.stdout.decode().splitlines()))
 
 
 def unjudged_are_counted() -> None:
