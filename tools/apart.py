@@ -438,8 +438,8 @@ class Excuses:
         ends a call that waits may keep its process from all that comes later: so the reasons are looked for in others,
         too."""
         placed, found = self.found_by_ends(limits, why)
-        if not found and may_wait_for_room(self.history) and may_be_larger(limits):
-            placed, found = self.found_by_ends(ROOMY, why)
+        if not found and may_wait_for_room(self.history):
+            placed, found = self.found_by_waits(limits, why)
         is_short = not found and is_out_of_room(self.history, limits, why)
         return (placed, found) if found else self.found_by_search(ROOMY if is_short else limits, why)
 
@@ -462,6 +462,17 @@ class Excuses:
             if found and all(it.reason for it in found):
                 return ordered, found
         return self.history, []
+
+    def found_by_waits(self, limits: Limits, why: Why) -> tuple[list[Noted], list[Apart]]:
+        """The same where a call that waits at the end comes when it began, as nonblock may be set meanwhile; and where
+        pipes may have more room."""
+        begun = sorted(self.history, key=lambda noted: noted.start if noted.end is None else noted.end)
+        for room in (limits, ROOMY) if may_be_larger(limits) else (limits,):
+            for ordered in (self.history, begun):
+                found = list(differences(ordered, room, why))
+                if found and all(it.reason for it in found) and not wants_room(found, room):
+                    return ordered, found
+        return self.found_by_ends(ROOMY, why) if may_be_larger(limits) else (self.history, [])
 
     def found_by_search(self, limits: Limits, why: Why) -> tuple[list[Noted], list[Apart]]:
         """The same, by reasons that are fdref's own, in an order that is searched for by them. At first no call has

@@ -1247,6 +1247,13 @@ EMPTIED_WAITS = [
 ]
 
 
+# A write that waits for a page, and after it another one that is not to wait and finds none either, as nonblock is set
+# meanwhile.
+SET_AFTER = f"{TWO}8 9 p0 write 1 61*65536 = 65536\n20 - p0 write 1 62*5000 = parked ?\n"
+SET_AFTER += "30 31 p1 read 0 5000 = 61*5000\n32 33 p1 read 0 3000 = 61*3000\n"
+SET_AFTER += "34 35 p1 setfl 1 -,nonblock = ok\n36 37 p1 write 1 63*700 = error EAGAIN\n"
+
+
 def lost_cases(program: str) -> Iterator[Case]:
     """What is told of writes that are not woken."""
     woken, known = "page of write: it waits until there is room", ("--pipe-capacity", "4096")
@@ -1260,6 +1267,9 @@ def lost_cases(program: str) -> Iterator[Case]:
     for text, room in EMPTIED_LOST:
         case = partial(fails, program, text, 1, "page of write", "--pipe-capacity", str(room))
         yield f"no room beside a page that is free: {text}", case
+    for more, status, end in (("", 0, paged), ("40 41 p1 read 0 57536 = 61*57536\n", 1, "no order explains it")):
+        case = partial(fails, program, f"{SET_AFTER}{more}", status, end, "--pipe-capacity", "65536")
+        yield f"a write that waits for a page, and one that does not wait; {more}", case
     for text, room in EMPTIED_WAITS:
         case = partial(ends_with, program, text, 0, paged, "--pipe-capacity", str(room))
         yield f"no page that is free: {text}", case
