@@ -19,6 +19,8 @@ from compare_runs import act_of
 # What each system has at least: descriptors (_POSIX_OPEN_MAX), bytes of a name (_POSIX_NAME_MAX), and bytes of a file,
 # which has 32 bits for its size (FILESIZEBITS).
 OPEN_LEAST, NAME_LEAST, SIZE_LEAST = 20, 14, 2**31 - 1
+# PIPE_BUF of no known system is larger.
+PIECE_MOST = 32_768
 
 # ---- what a history tells of a limit
 
@@ -102,8 +104,9 @@ def is_larger_piece(it: Difference) -> bool:
     has no room for all of them, though an empty pipe has."""
     if not it.words("write") or not it.at or not it.at.pipe or not it.at.nonblock or it.system != "error EAGAIN":
         return False
-    is_piece = PIPE_BUF < it.count() <= it.at.pipe.capacity and it.fdref.isdigit() and int(it.fdref) < it.count()
-    return is_piece and it.count() < min(one.refused for one in pieces_told(it.lines))
+    is_piece = PIPE_BUF < it.count() <= min(it.at.pipe.capacity, PIECE_MOST)
+    is_part = it.fdref.isdigit() and int(it.fdref) < it.count()
+    return is_piece and is_part and it.count() < min(one.refused for one in pieces_told(it.lines))
 
 
 def is_more_descriptors(it: Difference) -> bool:
