@@ -36,8 +36,10 @@ these calls changes anything. Where none do, a call that is refused has changed 
 given what it moved; after another that succeeds in one of the two alone, the rest is not compared; that is told. Where
 a reason goes by pages, these have one size in a history, from 4,096 to 65,536 bytes.
 A limit of the system that the standard leaves open is one, too: more descriptors than 32, or fewer than that and not
-fewer than 20, larger and smaller files, shorter names, ENOSPC, ENFILE, EAGAIN of fork. A write that is short for want
-of space is none, as it cannot be told from a wrong one; nor is a join that is refused.
+fewer than 20, larger and smaller files, shorter names, a larger PIPE_BUF, ENOSPC, ENFILE, EAGAIN of fork. A write that
+is short for want of space is none, as it cannot be told from a wrong one; nor is a join that is refused.
+A FIFO opened for both, which the standard leaves undefined, is one: it counts as one open of each end in what comes
+after, which only the model judges, as fdref refuses it. Where that explains nothing its reads and writes are left out.
 
 Where none explains a history a part of it is printed that has none either. In it `?` is an answer that does not
 matter, and END `-` with `?` is a call of which nothing else is known. Both may be asked, too. Then comes the call that
@@ -47,7 +49,8 @@ calls that overlap a reason is told as `perhaps` where not each that is answered
 in the order in which they came back. Histories that differ in their times alone are searched once.
 
 A search is given up after --seconds or --states, and a history where its first search is. Where that finds no order
-there are up to 56 more, as with larger pipes and with parts of writes, and twice 20 seconds to make a part short.
+there are up to 64 more, as with larger pipes and with parts of writes, and twice as many where a FIFO is opened for
+both; and twice 20 seconds to make a part short.
 
 After several histories the last line counts them. Exit status: 0 where all are explained, or have a reason that is
 fdref's own, 1 where one is not, 2 for wrong words and where HISTORY cannot be read, 3 where fdref could not be run or
@@ -232,7 +235,7 @@ class Orders:
         left = without_fifos(history)
         with opens_for_both():
             whole = self.besides(history)
-            found = whole or self.besides(left)
+            found = whole or (self.besides(left) if len(left) < len(history) else None)
             result = None if found else self.explained(left, self.args.limits)
         if result:
             return self.with_reason(result, NOT_FOR_BOTH)
