@@ -483,6 +483,8 @@ BOTH = f"{JOINED_TWO}4 5 p0 mkfifo q = ok\n6 7 p0 open q rw = 0\n8 9 p1 open q r
 BOTH += "21 25 p0 write 0 x616263 = 3\n"
 BY_BOTH = "reason: a FIFO opened for both (own; page of open)"
 NOT_COMPARED = f"{BY_BOTH}\nwhat is read and written there is not compared, "
+WRONG_BEFORE = BOTH.replace("x6162\n", "x6163\n").replace("6 7 p0 open q rw", "6 9 p0 open q w")
+PAST_END = "40 41 p1 open a rw,creat = 1\n42 43 p1 write 1 x61 = 1\n44 45 p1 read 1 1 = x61\n"
 FOR_BOTH = [
     (BOTH, BY_BOTH),
     (BOTH.replace("6 7", "6 12").replace("8 9", "7 10"), BY_BOTH),
@@ -492,6 +494,8 @@ FOR_BOTH = [
     (f"{BOTH}40 41 p0 exit = ok\n42 43 p1 read 0 2 = x63\n44 45 p1 read 0 2 = x\n", BY_BOTH),
 ]
 NOT_FOR_BOTH = [
+    (f"{WRONG_BEFORE}40 41 p0 open q rw = 1\n", "20 30 p1 read 0 2 = x6163"),
+    (f"{BOTH}{PAST_END}", "44 45 p1 read 1 1 = x61"),
     (f"{BOTH}40 41 p0 open q rw = 2\n", "40 41 p0 open q rw = 2"),
     (f"{BOTH}40 50 p0 open a w,creat = 1\n42 43 p1 open a r = 2\n", "42 43 p1 open a r = 2"),
 ]

@@ -29,12 +29,15 @@ def may_be_for_both(history: Iterable[Noted]) -> bool:
 
 
 def without_fifos(history: Sequence[Noted]) -> list[Noted]:
-    """A history without the reads and writes of FIFOs that are opened for both."""
+    """A history without the reads and writes of FIFOs that are opened for both, but for those before that."""
     footprints = Footprints(history)
-    first = footprints.names.first
-    fifos = {first(it.act.fields[0]) for it in history if is_for_both(it)} & footprints.names.fifos
+    names = footprints.names
+    named = [(names.first(it.act.fields[0]), it) for it in history if is_for_both(it)]
+    opens = [(name, it) for name, it in named if name in names.fifos]
     both = zip(history, footprints.touches, strict=True)
-    return [it for it, touch in both if it.act.word not in ("read", "write") or not touch.at or touch.at.file not in fifos]
+    moves = [(it, touch.at.file) for it, touch in both if touch.at and it.act.word in ("read", "write")]
+    is_open = {id(it) for it, file in moves for name, one in opens if name == file and not it.precedes(one)}
+    return [it for it in history if id(it) not in is_open]
 
 
 def has_end(world: World, pipe: Pipe, end: str) -> bool:
