@@ -684,9 +684,19 @@ static void end_moving(struct moving *it, int64_t given)
         let_pipes(&it->pipes, words[it->going.act.kind - FDREF_OPEN], given, it->going.act.count);
 }
 
+/* What is due where nothing is open of a transfer of this size, or from an offset on that may be refused. One of nothing
+   may find no error. */
+static enum due due_of(const struct fdref_act *act)
+{
+    if (act->count == 0 || act->count > SSIZE_MAX)
+        return ANY_IS_DUE;
+    return act->offset < 0 || act->offset > INT64_MAX - (int64_t)act->count ? ERROR_IS_DUE : EBADF_IS_DUE;
+}
+
 static int is_moved(struct moving *it)
 {
     it->going.way = way_of(it->going.act.fd);
+    lessen_due(due_of(&it->going.act));
     if (it->going.way == NOTE)
         begin_moving(it);
     if (it->going.way == ASK)
@@ -748,6 +758,7 @@ static int are_moved(struct moving *it, struct fdref_act act, const struct iovec
     it->going.act.count = size;
     it->parts = parts;
     it->going.way = way_of(act.fd);
+    lessen_due(count <= 0 || count > IOV_MAX ? ERROR_IS_DUE : due_of(&it->going.act));
     it->bytes = it->going.way == PASS || size > SSIZE_MAX ? NULL : (char *)malloc((size_t)size + 1);
     if (it->going.way == PASS)
         return 0;
@@ -928,6 +939,8 @@ static int is_sought(struct going *it, int fd, int64_t offset, int whence, size_
 {
     it->act = is_whence(whence) ? fdref_act_lseek(fd, offset, whence) : fdref_act_lseek(fd, INT64_MIN, SEEK_SET);
     it->way = way_of(fd);
+    if (!is_base(whence) || (whence == SEEK_SET && offset < 0))
+        lessen_due(ERROR_IS_DUE);
     if (it->way == NOTE && !is_base(whence) && (is_whence(whence) || (slot_of(fd).held == OURS && is_pipe_at(fd))))
         it->way = PASS;
     if (it->way != ASK)
@@ -961,6 +974,8 @@ static int is_cut(struct going *it, int fd, int64_t length)
 {
     it->act = fdref_act_ftruncate(fd, length);
     it->way = way_of(fd);
+    if (length < 0 || length > INT32_MAX)
+        lessen_due(ERROR_IS_DUE);
     it->done = it->way == ASK ? ALONE(ask(it->act)) : 0;
     return it->way == ASK;
 }

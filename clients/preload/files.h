@@ -280,6 +280,8 @@ static int is_controlled(struct going *it, int fd, int command, int argument)
     it->way = way_of(fd);
     it->act = fdref_act_dup2(fd, how == NATIVE && is_duplicating(command) && is_alone() ? number_from(argument) : -1);
     it->is_cloexec = command == F_DUPFD_CLOEXEC;
+    if (!is_commanded(command) || (is_duplicating(command) && (argument < 0 || argument >= NUMBERS)))
+        lessen_due(ERROR_IS_DUE);
     if (is_duplicating(command))
         begin_making();
     if (how == ASKED && is_duplicating(command))
@@ -407,6 +409,7 @@ int ioctl(int fd, int command, ...)
     if (IS_INNER)
         return next(fd, command, argument);
     way = way_of(fd);
+    lessen_due(ERROR_IS_DUE);
     if (way == ASK && command == FIONBIO)
         return (int)set_nonblock(fd, *(const int *)argument);
     if (way == NOTE && command == FIONBIO) {
@@ -442,14 +445,6 @@ static struct asking begin_asking(int fd)
 
 /* Whether that is known to be so in the call. */
 static int is_sure(const struct asking *it) { return it->is_watched && it->is_alone && it->runs == runs; }
-
-/* Notes what a native call gave that is not compared. */
-static void note_given(const char *name, int given, int error)
-{
-    char text[30];
-    snprintf(text, sizeof text, given < 0 ? "error %d" : "%d", given < 0 ? error : given);
-    notes("given", name, text);
-}
 
 /* Notes that what is no terminal is told to be one, or another error of it. The page lets errno be as it was. */
 static int check_terminal(const struct asking *it, int fd, int given)

@@ -953,11 +953,20 @@ static enum way way_of_ours(void)
     return how == NATIVE ? NOTE : ASK;
 }
 
+/* What is due of the native call that this thread is about to make: EBADF, since its number is none of fdref's, and nothing
+   is open there; where its other words may be refused, too, any error; and else anything. */
+enum due { ANY_IS_DUE, ERROR_IS_DUE, EBADF_IS_DUE };
+static __thread enum due due_now;
+
+static void lessen_due(enum due most) { due_now = due_now < most ? due_now : most; }
+
 /* The way of a call with a descriptor. In a native run the kernel knows best which are open. */
 static enum way way_of(int fd)
 {
     int error = errno;
     prepare();
+    if (!is_behind)
+        due_now = how == NATIVE && fd >= NUMBERS && !is_open_in_kernel(fd) ? EBADF_IS_DUE : ANY_IS_DUE;
     if (is_off() || is_behind || fd >= NUMBERS)
         return PASS;
     if (how == NATIVE && fd >= 0 && slots[fd].held != OURS)

@@ -171,10 +171,11 @@ static __thread unsigned runs;
 
 enum { NOT_SET = 1 << 20 };
 
-/* What errno was before a native call, and how many handlers had run. */
+/* What errno was before a native call, how many handlers had run, and what is due of it. */
 struct erring {
     int is_known, before;
     unsigned runs;
+    enum due due;
 };
 
 /* What it was before the call that this thread is in, for handlers that come meanwhile. */
@@ -182,12 +183,38 @@ static __thread int errno_there;
 
 static struct erring begin_erring(int is_own)
 {
-    struct erring it = {is_watching() && is_own, errno, runs};
+    struct erring it = {is_watching() && is_own, errno, runs, due_now};
+    if (is_own)
+        due_now = ANY_IS_DUE;
     if (it.is_known) {
         errno_there = errno;
         errno = NOT_SET;
     }
     return it;
+}
+
+/* Notes what a native call gave that is not compared. */
+static void note_given(const char *name, int given, int error)
+{
+    char text[30];
+    snprintf(text, sizeof text, given < 0 ? "error %d" : "%d", given < 0 ? error : given);
+    notes("given", name, text);
+}
+
+/* Notes a native call that has not failed as it has to where nothing is open. Another thread may have opened something. */
+static void check_due(const struct erring *it, const char *name, int64_t given, int error)
+{
+    static const char *const with_descriptor[] = {
+        "read", "write", "pread", "pwrite", "readv", "writev", "read_chk", "pread_chk", "pread64_chk", "lseek",
+        "ftruncate", "dup", "dup2", "dup3", "fcntl", "ioctl", "fstat", "fxstat", "close", NULL,
+    };
+    int is_due = given == -1 && (error == EBADF || it->due == ERROR_IS_DUE);
+    if (it->due == ANY_IS_DUE || is_due || !is_among(name, with_descriptor))
+        return;
+    if (is_alone())
+        note_wrong(name, "has not failed with EBADF, and nothing is open there");
+    else
+        note_given(name, (int)given, error);
 }
 
 static int64_t end_erring(const struct erring *it, const char *name, int64_t given, int has_line)
@@ -200,6 +227,7 @@ static int64_t end_erring(const struct erring *it, const char *name, int64_t giv
     errno = error;
     if (!it->is_known || it->runs != runs)
         return given;
+    check_due(it, name, given, error);
     if (is_set && error == 0)
         note_wrong(name, "has set errno to 0, as no function may");
     else if (!is_set && (given == -1 || (given < 0 && !may_be_below(name, has_line))))
@@ -238,7 +266,7 @@ struct masked {
 
 static struct masked before_call(const char *name, struct ending *own)
 {
-    struct masked before = {is_watching(), runs, {{0}}, own, ending, {0, 0, 0}};
+    struct masked before = {is_watching(), runs, {{0}}, own, ending, {0, 0, 0, ANY_IS_DUE}};
     int error = errno;
     if (before.is_known)
         say_inside(own_pid, (uint64_t)native_number + 1, name, own ? own->fd : -1, own ? own->size : 0);
@@ -312,7 +340,7 @@ static int is_idle(int number)
 
 static struct masked mask_behind(void)
 {
-    struct masked before = {is_watching(), runs, {{0}}, NULL, NULL, {0, 0, 0}};
+    struct masked before = {is_watching(), runs, {{0}}, NULL, NULL, {0, 0, 0, ANY_IS_DUE}};
     sigset_t idle;
     int error = errno;
     sigemptyset(&idle);

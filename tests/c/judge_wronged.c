@@ -635,6 +635,25 @@ static void do_each(void)
     close(fd);
 }
 
+/* Each call has a number that fdref has not, and nothing is open there; each of the last ones may fail by its other words. */
+static void ask_above(void)
+{
+    struct stat told;
+    read(99, bytes, 1);
+    write(99, "x", 1);
+    lseek(99, 0, SEEK_CUR);
+    dup2(99, 9);
+    dup2(ends[0], 99);
+    fcntl(99, F_GETFL);
+    fcntl(99, F_GETFD);
+    fstat(99, &told);
+    close(99);
+    read(99, bytes, 0);
+    pread(99, bytes, 1, -1);
+    lseek(99, 0, 77);
+    fcntl(99, F_DUPFD, -1);
+}
+
 /* Of a pipe fsync fails, and isatty of all. */
 static void sync_each(void)
 {
@@ -652,16 +671,20 @@ static void ask_terminals(void)
     isatty(20);
 }
 
-static void ask_terminals_beside(void)
+/* Does it beside a thread. */
+static void do_beside(void (*does)(void))
 {
     pthread_t thread;
     if (pthread_create(&thread, NULL, stay, NULL) != 0)
         exit(1);
-    ask_terminals();
+    does();
     close(ends[1]);
     ends[1] = -1;
     pthread_join(thread, NULL);
 }
+
+static void ask_terminals_beside(void) { do_beside(ask_terminals); }
+static void ask_above_beside(void) { do_beside(ask_above); }
 
 /* A group of processes is a number below -1, and so may the offset be in what is no file of fdref. */
 static void go_below(void)
@@ -746,6 +769,10 @@ int main(int count, char **words)
         {"seven-ftruncate", do_each},   {"seven-rename", do_each},
         {"seven-fstat", do_each},       {"seven-fcntl", do_each},
         {"below", go_below},
+        {"above-read", ask_above},      {"above-lseek", ask_above},
+        {"above-fcntl", ask_above},     {"above-close", ask_above},
+        {"above-dup2", ask_above},      {"above-fstat", ask_above},
+        {"above-beside", ask_above_beside},
         {"sync-refused", sync_each},    {"sync-closed", sync_each},
         {"sync-disk", sync_each},       {"sync-ends", sync_and_end},
         {"terminal-told", ask_terminals}, {"terminal-error", ask_terminals},

@@ -74,6 +74,8 @@
    errno-kept      truncate fails, and does not set errno
    minus-NAME      write, lseek, fcntl, close, rename or waitpid gives its error below 0 where it fails
    seven-NAME      close, pipe, ftruncate, rename or fstat gives 7 where it does not fail
+   above-NAME      read, lseek, fcntl, close, dup2 or fstat gives 0 where nothing is open
+   above-beside    the same of read, beside a thread
    zero-execv      execv gives 0 where it fails
    waitid-any      waitid gives 0 where there is no child, and tells none
    waitid-same     the same, and tells what it told before
@@ -126,6 +128,9 @@ static int begins_wrong(const char *how)
 static long given_by(const char *name, long done)
 {
     const char *wrong = getenv("WRONG");
+    int is_beside = is_wrong("above-beside") && strcmp(name, "read") == 0;
+    if (done < 0 && errno == EBADF && (is_beside || (begins_wrong("above-") && strcmp(wrong + 6, name) == 0)))
+        return 0;
     if (done < 0 && begins_wrong("minus-") && strcmp(wrong + 6, name) == 0)
         return -errno;
     return done == 0 && begins_wrong("seven-") && strcmp(wrong + 6, name) == 0 ? 7 : done;
@@ -152,7 +157,7 @@ ssize_t read(int fd, void *to, size_t count)
         ((char *)to)[0] ^= 1;
     int is_dry = is_wrong("dry-end") || is_wrong("input-dry");
     if (done != 0 || count == 0 || syscall(SYS_lseek, fd, 0L, SEEK_CUR) >= 0 || !is_dry)
-        return done;
+        return given_by("read", done);
     errno = EAGAIN;
     return -1;
 }
@@ -423,7 +428,7 @@ int dup2(int fd, int to)
     sigfillset(&all);
     if (is_wrong("mask-dup2"))
         sigprocmask(SIG_BLOCK, &all, NULL);
-    return is_wrong("dup2-zero") ? 0 : (int)done;
+    return is_wrong("dup2-zero") ? 0 : (int)given_by("dup2", done);
 }
 
 int close_range(unsigned first, unsigned last, int flags)

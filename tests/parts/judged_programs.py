@@ -849,6 +849,10 @@ WRONGED = {
         f"seven-{name}": f"{OF_SYSTEM}p0 {name}: has given 7, and 0 is due where it does not fail"
         for name in ("close", "pipe", "ftruncate", "rename", "fstat")
     },
+    **{
+        f"above-{name}": f"{OF_SYSTEM}p0 {name}: has not failed with EBADF, and nothing is open there"
+        for name in ("read", "lseek", "fcntl", "close", "dup2", "fstat")
+    },
     "zero-execv": f"{OF_SYSTEM}p0 execv: has failed, and has given 0, where -1 is due",
     "sync-refused": f"{OF_SYSTEM}p0 fsync: has failed with error {errno.EBADF}, which no file gives that is open",
     "sync-closed": f"{OF_SYSTEM}p0 fsync: has not failed with EBADF, and nothing is open there",
@@ -906,6 +910,7 @@ GIVEN = {
     "sync-disk": "what fsync gave on the system (error EIO)",
     "sync-ends": "what fsync gave on the system (error EIO)",
     "terminal-beside": "what isatty gave on the system (1)",
+    "above-beside": "what read gave on the system (0)",
     "stop-other": f"what waitpid gave on the system (a stop by signal {int(signal.SIGTSTP)})",
 }
 
