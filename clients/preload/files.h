@@ -240,14 +240,17 @@ static int flag_of(int fd, int command)
     return slot.held == FREE ? -1 : command == F_GETFD && slot.is_cloexec ? FD_CLOEXEC : 0;
 }
 
-/* Notes natively that the system has given something else. */
+/* Notes natively that the system has given something else. Beside other threads, which may have set the flag or made
+   another descriptor, that is not compared. */
 static int64_t flag_noted(int fd, int command, int argument, int given)
 {
     char text[40];
     int error = errno, is_set = command == F_SETFD, is_fault = given < 0 && errno != EBADF;
     /* F_SETFD may give any number but -1 */
-    int told = given < 0 ? -1 : is_set ? 0 : given & FD_CLOEXEC;
-    if (is_alone() && !is_doubtful && (is_fault || told != flag_of(fd, command))) {
+    int told = given < 0 ? -1 : is_set ? 0 : given & FD_CLOEXEC, is_other = is_fault || told != flag_of(fd, command);
+    if (is_other && (!is_alone() || is_doubtful)) {
+        note_given(is_set ? "fcntl F_SETFD" : "fcntl F_GETFD", given, error);
+    } else if (is_other) {
         snprintf(text, sizeof text, "%d = %s%d", fd, given < 0 ? "error " : "", given < 0 ? error : given);
         note_past('!', (uint64_t)log_length(), native_number, "cloexec", is_set ? "F_SETFD" : "F_GETFD", text);
     }

@@ -685,6 +685,7 @@ static void do_beside(void (*does)(void))
 
 static void ask_terminals_beside(void) { do_beside(ask_terminals); }
 static void ask_above_beside(void) { do_beside(ask_above); }
+static void keep_flags_beside(void) { do_beside(keep_flags); }
 
 /* A group of processes is a number below -1, and so may the offset be in what is no file of fdref. */
 static void go_below(void)
@@ -772,7 +773,7 @@ int main(int count, char **words)
         {"above-read", ask_above},      {"above-lseek", ask_above},
         {"above-fcntl", ask_above},     {"above-close", ask_above},
         {"above-dup2", ask_above},      {"above-fstat", ask_above},
-        {"above-beside", ask_above_beside},
+        {"above-beside", ask_above_beside}, {"cloexec-beside", keep_flags_beside},
         {"sync-refused", sync_each},    {"sync-closed", sync_each},
         {"sync-disk", sync_each},       {"sync-ends", sync_and_end},
         {"terminal-told", ask_terminals}, {"terminal-error", ask_terminals},

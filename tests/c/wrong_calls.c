@@ -58,6 +58,7 @@
    access-refused  access is ENOENT
    read-beyond     a read changes a byte beyond its buffer
    cloexec-thread  F_GETFD gives 0
+   cloexec-beside  the same, beside a thread
    ino-apart       fstat tells another st_ino of each descriptor
    ino-same        fstat tells the same st_ino of all
    fifo-early      an open of a FIFO to write waits for nobody
@@ -170,7 +171,7 @@ int fcntl(int fd, int command, ...)
     va_start(values, command);
     argument = va_arg(values, long);
     va_end(values);
-    if (command == F_GETFD && (is_wrong("cloexec-lost") || is_wrong("cloexec-thread")))
+    if (command == F_GETFD && (is_wrong("cloexec-lost") || is_wrong("cloexec-thread") || is_wrong("cloexec-beside")))
         return 0;
     if (command == F_DUPFD && is_wrong("dupfd-refused")) {
         errno = EINVAL;

@@ -911,6 +911,7 @@ GIVEN = {
     "sync-ends": "what fsync gave on the system (error EIO)",
     "terminal-beside": "what isatty gave on the system (1)",
     "above-beside": "what read gave on the system (0)",
+    "cloexec-beside": "what fcntl F_GETFD gave on the system (0)",
     "stop-other": f"what waitpid gave on the system (a stop by signal {int(signal.SIGTSTP)})",
 }
 
