@@ -1323,6 +1323,7 @@ GOES(int, linkat, (int folder, const char *name, int new_folder, const char *new
 static int is_renamed(struct going *it, int folder, const char *name, int new_folder, const char *new_name)
 {
     const char *rest = name, *new_rest = new_name;
+    names_gone++;
     enum way way = way_in("rename", folder, &rest), new_way = way_in("rename", new_folder, &new_rest);
     int is_out = way == ASK && new_way == PASS && new_folder == AT_FDCWD && plain(new_name);
     it->act = fdref_act_rename(rest, new_rest);
@@ -1349,6 +1350,7 @@ GOES(int, renameat, (int folder, const char *name, int new_folder, const char *n
 
 static int is_unlinked(struct going *it, int folder, const char *name, int flags)
 {
+    names_gone++;
     it->way = way_in("unlink", folder, &name);
     it->act = fdref_act_unlink(name);
     if (it->way != PASS && (flags & AT_REMOVEDIR) != 0) {
@@ -1369,6 +1371,7 @@ GOES(int, unlinkat, (int folder, const char *name, int flags), (folder, name, fl
 
 static int is_removed(struct going *it, const char *name)
 {
+    names_gone++;
     it->way = way_of_name("remove", &name);
     it->act = fdref_act_unlink(name);
     it->done = it->way == ASK ? ALONE(after_unlink(ask(it->act), name)) : 0;

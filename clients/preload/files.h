@@ -63,32 +63,83 @@ static void note_look(int done, mode_t mode, uint64_t size, uint64_t links)
     errno = error;
 }
 
-/* What a native fstat has told of each pipe that is open: which file it is. */
-static struct told_file {
-    unsigned stamp;
+/* Which file it is: what a system has told, and what the kernel tells, or of a pipe what this library keeps. */
+struct identity {
     uint64_t device, number;
-} told_files[NUMBERS];
+};
+struct told_file {
+    unsigned stamp;
+    struct identity told, own;
+};
 
-static int is_told_pipe(int fd)
+/* What a native fstat has told of each descriptor that is open, and natively a look at a name of late, as long as no name
+   has gone. */
+enum { TOLD_NAMES = 16 };
+static struct told_file told_files[NUMBERS], told_names[TOLD_NAMES];
+static unsigned name_stamp;
+
+static int are_same_files(const struct identity *one, const struct identity *other)
 {
-    return slots[fd].held == OURS && slots[fd].is_pipe && stamps[fd] > 0 && told_files[fd].stamp == stamps[fd];
+    return one->device == other->device && one->number == other->number;
 }
 
-/* Notes natively that two ends of one pipe are told to be two files, or those of two pipes to be one. */
+/* Notes natively that one file is told to be two, or two that are there to be one. */
+static void compare_files(const char *name, const struct told_file *one, const struct told_file *other)
+{
+    int is_one = are_same_files(&one->own, &other->own), is_told = are_same_files(&one->told, &other->told);
+    if (is_one && !is_told)
+        note_wrong(name, "tells two files where there is one");
+    else if (!is_one && is_told)
+        note_wrong(name, "tells one file where there are two");
+}
+
+/* The same with all that were told. */
+static void compare_with_all(const char *name, const struct told_file *now, int has_names)
+{
+    for (int fd = 0; fd < NUMBERS; fd++)
+        if (slots[fd].held == OURS && stamps[fd] > 0 && told_files[fd].stamp == stamps[fd])
+            compare_files(name, now, &told_files[fd]);
+    for (int at = 0; has_names && at < TOLD_NAMES; at++)
+        if (told_names[at].stamp == names_gone + 1)
+            compare_files(name, now, &told_names[at]);
+}
+
+static int has_all_alone(void);
+
 static void check_file(const char *name, int fd, uint64_t device, uint64_t number)
 {
-    struct told_file now = {0, device, number};
-    if (!is_watching() || !is_alone() || is_doubtful || slot_of(fd).held != OURS || !slot_of(fd).is_pipe)
+    struct told_file now = {0, {device, number}, {0, 0}};
+    struct stat kernel;
+    if (!is_watching() || !is_alone() || is_doubtful || slot_of(fd).held != OURS)
         return;
+    kernel = told_in_kernel(fd);
     now.stamp = stamps[fd];
-    for (int at = 0; at < NUMBERS; at++) {
-        int is_same = is_told_pipe(at) && told_files[at].device == device && told_files[at].number == number;
-        if (is_told_pipe(at) && slots[at].inode == slots[fd].inode && !is_same)
-            note_wrong(name, "tells two files where there is one pipe");
-        else if (is_same && slots[at].inode != slots[fd].inode)
-            note_wrong(name, "tells one file where there are two pipes");
-    }
+    now.own.device = slots[fd].is_pipe ? 0 : kernel.st_dev;
+    now.own.number = slots[fd].is_pipe ? slots[fd].inode : kernel.st_ino;
+    if (now.own.number == 0)
+        return;
+    compare_with_all(name, &now, has_all_alone());
     told_files[fd] = now;
+}
+
+/* The same of a name, which no other process can lead elsewhere. */
+static void check_named(const char *name, const char *path, uint64_t device, uint64_t number)
+{
+    struct told_file now = {names_gone + 1, {device, number}, {0, 0}};
+    struct stat kernel;
+    int error = errno;
+    memset(&kernel, 0, sizeof kernel);
+#ifdef SYS_newfstatat
+    if (has_all_alone() && !is_doubtful)
+        system_syscall(SYS_newfstatat, (long)AT_FDCWD, path, &kernel, (long)AT_SYMLINK_NOFOLLOW);
+#endif
+    now.own.device = kernel.st_dev;
+    now.own.number = kernel.st_ino;
+    if (S_ISREG(kernel.st_mode) || S_ISFIFO(kernel.st_mode)) {
+        compare_with_all(name, &now, 1);
+        told_names[name_stamp++ % TOLD_NAMES] = now;
+    }
+    errno = error;
 }
 
 #define LOOKS(function, parameters, words, folder, flags) \
@@ -104,6 +155,8 @@ static void check_file(const char *name, int fd, uint64_t device, uint64_t numbe
             FILL(to, file); \
         if (done > 0) \
             WITHIN(done, next words); \
+        if (looked_at && done == 0) \
+            check_named(#function, looked_at, to->st_dev, to->st_ino); \
         if (looked_at) \
             note_look(done, done < 0 ? 0 : to->st_mode, done < 0 ? 0 : (uint64_t)to->st_size, \
                       done < 0 ? 0 : (uint64_t)to->st_nlink); \

@@ -174,6 +174,7 @@ long syscall(long number, ...)
     va_end(values);
     prepare();
     ours = -1;
+    names_gone += !is_inside && !is_behind;
     if (!is_off() && is_kept_open(number, given, is_inside, &done))
         return done;
     if (how == ASKED && !is_inside && raw && is_told(raw, given) && fails_raw(raw, given))

@@ -220,8 +220,12 @@ static void note_past(char mark, uint64_t place, uint32_t number, const char *ki
     append(past_file, "what goes past fdref", text, size);
 }
 
+/* How often a name may have gone from its file, natively. */
+static unsigned names_gone;
+
 static void goes_past(char mark, const char *kind, const char *what, const char *of)
 {
+    names_gone++;
     if (how == ASKED && process)
         note_past(mark, process->place, (uint32_t)process->number, kind, what, of);
 }

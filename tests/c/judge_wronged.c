@@ -437,6 +437,35 @@ static void ask_files(void)
         fstat(more[1], told + 4);
 }
 
+/* Asks which file each of three descriptors is, of which two are of one file, and then of other names; that of a file that is
+   gone may come again. */
+static void ask_for_files(void)
+{
+    struct stat told[3];
+    int fd = open("a", O_RDWR | O_CREAT, 0600), other = open("b", O_RDWR | O_CREAT, 0600);
+    if (link("a", "c") != 0 || fstat(fd, told) != 0 || fstat(other, told) != 0)
+        exit(1);
+    fstat(open("c", O_RDONLY), told);
+    close(other);
+    unlink("b");
+    fstat(open("d", O_RDWR | O_CREAT, 0600), told);
+}
+
+static void ask_for_names(void)
+{
+    struct stat told;
+    close(open("a", O_RDWR | O_CREAT, 0600));
+    close(open("b", O_RDWR | O_CREAT, 0600));
+    if (link("a", "c") != 0)
+        exit(1);
+    stat("a", &told);
+    stat("c", &told);
+    stat("b", &told);
+    unlink("b");
+    close(open("d", O_RDWR | O_CREAT, 0600));
+    stat("d", &told);
+}
+
 /* Opens a FIFO that a child opens after a while. */
 static void open_fifo(void)
 {
@@ -782,6 +811,8 @@ int main(int count, char **words)
         {"exec-keeps", run_with_flags}, {"exec-closes", run_with_flags},
         {"ino-apart", ask_files},       {"ino-same", ask_files},
         {"fifo-early", open_fifo},
+        {"file-apart", ask_for_files},  {"file-same", ask_for_files},
+        {"names", ask_for_names},
         {"access-refused", ask},        {"read-beyond", take_few},
         {"cloexec-thread", keep_flags_after_thread},
         {"restart-lost", restart},      {"never-beside", read_beside},

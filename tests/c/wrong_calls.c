@@ -61,6 +61,8 @@
    cloexec-beside  the same, beside a thread
    ino-apart       fstat tells another st_ino of each descriptor
    ino-same        fstat tells the same st_ino of all
+   file-apart      fstat and stat tell another st_ino each time
+   file-same       fstat and stat tell the same st_ino of all
    fifo-early      an open of a FIFO to write waits for nobody
    restart-lost    sigaction sets no SA_RESTART
    never-beside    a read never comes back
@@ -476,6 +478,16 @@ int open(const char *name, int flags, ...)
     return (int)syscall(SYS_openat, AT_FDCWD, name, is_unset ? flags & ~O_CLOEXEC : flags, 0600);
 }
 
+/* Which file a look tells that has told this one. */
+static void tell_file(struct stat *to)
+{
+    static ino_t looks;
+    if (is_wrong("file-apart"))
+        to->st_ino += ++looks;
+    if (is_wrong("file-same"))
+        to->st_ino = 1;
+}
+
 int fstat(int fd, struct stat *to)
 {
     int (*next)(int, struct stat *), done;
@@ -484,6 +496,8 @@ int fstat(int fd, struct stat *to)
     done = next(fd, to);
     if (done == 0 && (is_wrong("ino-apart") || is_wrong("ino-same")))
         to->st_ino = is_wrong("ino-same") ? 1 : to->st_ino + (ino_t)fd;
+    if (done == 0)
+        tell_file(to);
     return (int)given_by("fstat", done);
 }
 
@@ -495,5 +509,7 @@ int stat(const char *name, struct stat *to)
     done = next(name, to);
     if (done == 0 && is_wrong("stat-size"))
         to->st_size++;
+    if (done == 0)
+        tell_file(to);
     return done;
 }

@@ -574,6 +574,7 @@ def cases(bench: Bench) -> Iterator[Case]:
         for wrong, word, status, last in GOES_ON_AFTER:
             name = f"a signal that ends a call, which {word} makes: {wrong}"
             yield name, partial(goes_on_after_signals, bench, wrong, word, status, last)
+    yield "names of one file, and of two", partial(names_files, bench)
     yield "F_SETFL and F_SETFD that give another number than 0", partial(takes_any_number, bench)
     for word, told in GIVEN.items():
         yield f"a call that is not compared: {word}", partial(leaves_open, bench, word, told)
@@ -819,8 +820,10 @@ WRONGED = {
     "dup3-same": f"{OF_SYSTEM}p0 dup3: has not refused one number twice, or other flags",
     "access-refused": "verdict: a difference: access tells otherwise: system: a = error 2, fdref: a = there",
     "read-beyond": f"{OF_SYSTEM}p0 read: has changed what is beyond its buffer",
-    "ino-apart": f"{OF_SYSTEM}p0 fstat: tells two files where there is one pipe",
-    "ino-same": f"{OF_SYSTEM}p0 fstat: tells one file where there are two pipes",
+    "ino-apart": f"{OF_SYSTEM}p0 fstat: tells two files where there is one",
+    "ino-same": f"{OF_SYSTEM}p0 fstat: tells one file where there are two",
+    "file-apart": f"{OF_SYSTEM}p0 fstat: tells two files where there is one",
+    "file-same": f"{OF_SYSTEM}p0 fstat: tells one file where there are two",
     "fifo-early": f"{OF_SYSTEM}p0 open f w: has come back before another one began to open the other end",
     "restart-lost": f"{OF_SYSTEM}p0 sigaction: has set SA_RESTART otherwise than it was asked for",
     "never-beside": f"{DIFFERS}p0 read 3 1 has not come back on the system, which was killed in it",
@@ -890,6 +893,17 @@ def names_errno(bench: Bench) -> None:
     cause = "errno after a lseek that has not failed, which a program may not go by"
     last = ran.stdout.decode("ascii").splitlines()[-1]
     require(ran.status == 3 and last.startswith(f"{ENDS_OTHERWISE}, perhaps by {cause}"), ran.said())
+
+
+def names_files(bench: Bench) -> None:
+    """The st_ino that stat tells of names is compared, too."""
+    program, library = bench.compiled("judge_wronged"), bench.path("wrong.so")
+    judged_wronged(bench, "file-same")
+    for wrong, told in (("none", NOT_ALL), ("file-apart", "two files where there is one"), ("file-same", "one file where there are two")):
+        words = ("--shim", bench.shim(), "--preload", library, program, "names")
+        ran = bench.judged(*words, variables=(f"WRONG={wrong}",))
+        line = told if told == NOT_ALL else f"{OF_SYSTEM}p0 stat: tells {told}"
+        require(ran.stdout.decode("ascii").splitlines()[-1].startswith(line), ran.said())
 
 
 def takes_any_number(bench: Bench) -> None:
