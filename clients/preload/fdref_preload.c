@@ -1296,9 +1296,43 @@ static int is_fifo_made(struct going *it, int folder, const char *name)
     return it->way == ASK;
 }
 
-GOES(int, mkfifo, (const char *name, mode_t mode), (name, mode), is_fifo_made(&going, AT_FDCWD, name), gone)
-GOES(int, mkfifoat, (int folder, const char *name, mode_t mode), (folder, name, mode),
-     is_fifo_made(&going, folder, name), gone)
+static int has_all_alone(void);
+
+/* Asks the same system natively what it has made, where no other process can have changed that. */
+static void check_fifo(const char *what, const char *name, int given)
+{
+    int (*next)(const char *, struct stat *), error = errno, done;
+    void *found = given == 0 && has_all_alone() ? dlsym(RTLD_NEXT, "lstat") : NULL;
+    struct stat made;
+    if (!found)
+        return;
+    memcpy(&next, &found, sizeof next);
+    done = (int)let_in(BEHIND_OF("lstat", next(name, &made)));
+    if ((done == 0 && !S_ISFIFO(made.st_mode)) || (done == -1 && errno == ENOENT))
+        note_wrong(what, "has made no FIFO, as lstat tells");
+    errno = error;
+}
+
+#define MAKES_FIFO(function, parameters, words, folder) \
+    int function parameters \
+    { \
+        NEXT_OF(function); \
+        struct going going; \
+        int given; \
+        if (IS_INNER) \
+            return next words; \
+        if (is_fifo_made(&going, folder, name)) \
+            return (int)going.done; \
+        if (going.way != NOTE) { \
+            WITHIN(given, next words); \
+            return given; \
+        } \
+        given = (int)let_in(gone(&going, BEHIND(next words))); \
+        check_fifo(#function, going.act.name, given); \
+        return given; \
+    }
+MAKES_FIFO(mkfifo, (const char *name, mode_t mode), (name, mode), AT_FDCWD)
+MAKES_FIFO(mkfifoat, (int folder, const char *name, mode_t mode), (folder, name, mode), folder)
 
 static int is_linked(struct going *it, int folder, const char *name, int new_folder, const char *new_name, int flags)
 {

@@ -466,6 +466,14 @@ static void ask_for_names(void)
     stat("d", &told);
 }
 
+/* Opens both ends of a FIFO. */
+static void open_both(void)
+{
+    mkfifo("f", 0600);
+    open("f", O_RDONLY | O_NONBLOCK);
+    open("f", O_WRONLY);
+}
+
 /* Opens a FIFO that a child opens after a while. */
 static void open_fifo(void)
 {
@@ -810,7 +818,7 @@ int main(int count, char **words)
         {"cloexec-exec", run_with_flags}, {"asks", ask_flags},
         {"exec-keeps", run_with_flags}, {"exec-closes", run_with_flags},
         {"ino-apart", ask_files},       {"ino-same", ask_files},
-        {"fifo-early", open_fifo},
+        {"fifo-early", open_fifo},      {"fifo-regular", open_both},
         {"file-apart", ask_for_files},  {"file-same", ask_for_files},
         {"names", ask_for_names},
         {"access-refused", ask},        {"read-beyond", take_few},

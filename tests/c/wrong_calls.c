@@ -63,6 +63,7 @@
    ino-same        fstat tells the same st_ino of all
    file-apart      fstat and stat tell another st_ino each time
    file-same       fstat and stat tell the same st_ino of all
+   fifo-regular    mkfifo makes a regular file
    fifo-early      an open of a FIFO to write waits for nobody
    restart-lost    sigaction sets no SA_RESTART
    never-beside    a read never comes back
@@ -476,6 +477,13 @@ int open(const char *name, int flags, ...)
     if (flags == O_WRONLY && is_wrong("fifo-early") && stat(name, &told) == 0 && S_ISFIFO(told.st_mode))
         flags = O_RDWR;
     return (int)syscall(SYS_openat, AT_FDCWD, name, is_unset ? flags & ~O_CLOEXEC : flags, 0600);
+}
+
+int mkfifo(const char *name, mode_t mode)
+{
+    if (is_wrong("fifo-regular"))
+        return close(open(name, O_RDWR | O_CREAT | O_EXCL, mode));
+    return (int)syscall(SYS_mknodat, AT_FDCWD, name, S_IFIFO | mode, 0);
 }
 
 /* Which file a look tells that has told this one. */

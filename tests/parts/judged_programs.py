@@ -824,6 +824,7 @@ WRONGED = {
     "ino-same": f"{OF_SYSTEM}p0 fstat: tells one file where there are two",
     "file-apart": f"{OF_SYSTEM}p0 fstat: tells two files where there is one",
     "file-same": f"{OF_SYSTEM}p0 fstat: tells one file where there are two",
+    "fifo-regular": f"{OF_SYSTEM}p0 mkfifo: has made no FIFO, as lstat tells",
     "fifo-early": f"{OF_SYSTEM}p0 open f w: has come back before another one began to open the other end",
     "restart-lost": f"{OF_SYSTEM}p0 sigaction: has set SA_RESTART otherwise than it was asked for",
     "never-beside": f"{DIFFERS}p0 read 3 1 has not come back on the system, which was killed in it",
