@@ -829,25 +829,87 @@ static void check_failed_exec(const char *name, int given)
         note_wrong(name, text);
 }
 
-/* A native exec has failed. Where the kernel goes on with the program that is noted by it. */
-static void run_otherwise(const struct program *program, char *const list[], char **with)
+/* The error of a path that leads to nothing, or 0. */
+static int missing(const char *path)
+{
+    int error = errno, is_there = system_syscall(SYS_faccessat, (long)AT_FDCWD, path, (long)F_OK) == 0, found = errno;
+    errno = error;
+    return !is_there && (found == ENOENT || found == ENOTDIR) ? found : 0;
+}
+
+/* The same of a name that is sought in each folder of PATH. */
+static int missing_in(const char *folders, const char *name)
+{
+    char path[PATH_MAX];
+    for (const char *end; *name; folders = end + 1) {
+        int size = (int)strcspn(folders, ":");
+        end = folders + size;
+        if (size == 0 || snprintf(path, sizeof path, "%.*s/%s", size, folders, name) >= (int)sizeof path
+            || missing(path) != ENOENT)
+            return 0;
+        if (*end == 0)
+            break;
+    }
+    return ENOENT;
+}
+
+static int missing_program(const struct program *program)
+{
+    if (!program->path || program->fd != AT_FDCWD || program->flags != 0)
+        return 0;
+    if (!program->is_sought || strchr(program->path, '/'))
+        return missing(program->path);
+    return getenv("PATH") ? missing_in(getenv("PATH"), program->path) : 0;
+}
+
+/* Notes natively that an exec has failed otherwise than by the error of a path which leads to nothing before it and after
+   it. Of another one the error is not compared, where the kernel gives another one, or was not asked: -1. */
+static void check_exec_error(const struct program *program, int before, int error, int in_kernel)
+{
+    static const int others[] = {E2BIG, ENOMEM, EAGAIN, ENAMETOOLONG, ELOOP};
+    char text[80];
+    size_t at = 0, count = sizeof others / sizeof *others;
+    int is_missing = before != 0 && missing_program(program) == before;
+    while (at < count && others[at] != error)
+        at++;
+    if (is_missing && error != before && at == count) {
+        snprintf(text, sizeof text, "has failed with error %d, and %s is due", error,
+                 before == ENOENT ? "ENOENT" : "ENOTDIR");
+        note_wrong(program->what, text);
+    } else if (error != (is_missing ? before : in_kernel)) {
+        note_given(program->what, -1, error);
+    }
+}
+
+/* A native exec has failed. Where the kernel goes on with the program that is noted by it, and else its error is given, or
+   -1. */
+static int run_otherwise(const struct program *program, char *const list[], char **with)
 {
     char failed[60];
     size_t count = 0;
     if (!program->path || program->fd != AT_FDCWD || (program->is_sought && !strchr(program->path, '/')))
-        return;
+        return -1;
     snprintf(failed, sizeof failed, "%s%s", failed_name, program->what);
     while (with[count])
         count++;
     with[count] = failed;
     system_syscall(SYS_execve, program->path, list, with);
     with[count] = NULL;
+    return errno;
+}
+
+/* Tells a program that is no process of fdref, perhaps since its environment does not load this library. */
+static void leave_program(const char *what, const char *path, int is_of_environment)
+{
+    char text[60];
+    snprintf(text, sizeof text, "%s%s", what, is_of_environment ? " in another environment" : "");
+    leave_out("program", text, path);
 }
 
 static int run(struct program program, char *const list[], char *const env[], int is_own)
 {
     char handed[HANDED_MOST], **with;
-    int error, given;
+    int error, given, before;
     prepare();
     if (is_own)
         return run_in(&program, list, env);
@@ -860,12 +922,13 @@ static int run(struct program program, char *const list[], char *const env[], in
     if (with)
         hand_files(0);
     else if (how == ASKED)
-        leave_out("program", program.what, program.path);
+        leave_program(program.what, program.path, !is_same(env, "LD_PRELOAD") || !is_same(env, "FDREF_SOCKET"));
+    before = is_watching() ? missing_program(&program) : 0;
     given = run_in(&program, list, with ? with : env);
     error = errno;
     check_failed_exec(program.what, given);
-    if (with && is_watching())
-        run_otherwise(&program, list, with);
+    if (is_watching() && given == -1)
+        check_exec_error(&program, before, error, with ? run_otherwise(&program, list, with) : -1);
     if (with)
         hand_files(FD_CLOEXEC);
     free(with);

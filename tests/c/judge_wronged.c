@@ -474,6 +474,22 @@ static void open_both(void)
     open("f", O_WRONLY);
 }
 
+/* Runs what is not there, and what is no program. */
+static void run_nothing(void)
+{
+    char *words[] = {(char[]){"none"}, NULL};
+    execv("./none", words);
+    execv("none/none", words);
+    execv("", words);
+}
+
+static void run_folder(void)
+{
+    char *words[] = {(char[]){"none"}, NULL};
+    write(ends[1], "x", 1);
+    execv("/", words);
+}
+
 /* Opens a FIFO that a child opens after a while. */
 static void open_fifo(void)
 {
@@ -821,6 +837,7 @@ int main(int count, char **words)
         {"fifo-early", open_fifo},      {"fifo-regular", open_both},
         {"file-apart", ask_for_files},  {"file-same", ask_for_files},
         {"names", ask_for_names},
+        {"exec-error", run_nothing},    {"exec-unlike", run_folder},
         {"access-refused", ask},        {"read-beyond", take_few},
         {"cloexec-thread", keep_flags_after_thread},
         {"restart-lost", restart},      {"never-beside", read_beside},

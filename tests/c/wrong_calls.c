@@ -51,6 +51,8 @@
    fork-child      fork gives a child its own number
    fork-parent     fork gives a parent 0
    exit-other      _exit gives another status
+   exec-error      execv is EIO where it fails
+   exec-unlike     the same
    exec-cut        execl and execvp give one word alone
    exec-keeps      execve keeps what has FD_CLOEXEC
    exec-closes     execve closes all from 3 on
@@ -356,6 +358,8 @@ int execve(const char *path, char *const list[], char *const env[])
 int execv(const char *path, char *const list[])
 {
     int done = execve(path, list, environ);
+    if (is_wrong("exec-error") || is_wrong("exec-unlike"))
+        errno = EIO;
     return is_wrong("zero-execv") ? 0 : done;
 }
 

@@ -825,6 +825,7 @@ WRONGED = {
     "file-apart": f"{OF_SYSTEM}p0 fstat: tells two files where there is one",
     "file-same": f"{OF_SYSTEM}p0 fstat: tells one file where there are two",
     "fifo-regular": f"{OF_SYSTEM}p0 mkfifo: has made no FIFO, as lstat tells",
+    "exec-error": f"{OF_SYSTEM}p0 execv: has failed with error {errno.EIO}, and ENOENT is due",
     "fifo-early": f"{OF_SYSTEM}p0 open f w: has come back before another one began to open the other end",
     "restart-lost": f"{OF_SYSTEM}p0 sigaction: has set SA_RESTART otherwise than it was asked for",
     "never-beside": f"{DIFFERS}p0 read 3 1 has not come back on the system, which was killed in it",
@@ -926,6 +927,7 @@ GIVEN = {
     "sync-ends": "what fsync gave on the system (error EIO)",
     "terminal-beside": "what isatty gave on the system (1)",
     "above-beside": "what read gave on the system (0)",
+    "exec-unlike": "what execv gave on the system (error EIO)",
     "cloexec-beside": "what fcntl F_GETFD gave on the system (0)",
     "stop-other": f"what waitpid gave on the system (a stop by signal {int(signal.SIGTSTP)})",
 }
