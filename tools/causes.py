@@ -59,6 +59,8 @@ ASIDE = (past.IDLE, past.VFORK, past.INTERRUPT, past.CUT, past.TIMER, past.HANDL
 LEADS = (past.SIGNAL, past.LIMIT, past.INTERRUPT, past.MAKES)
 # What makes a name that is another one in each run.
 MAKES_A_NAME = re.compile(r"mko?stemps?(?:64)?|mkdtemp|mktemp|tempnam")
+# What makes a name of the system alone, of which looks tell.
+MAKES_A_LINK = re.compile(r"symlink(?:at)?|mknod(?:at)?")
 # Paths by which a descriptor, or a folder of a process, has another name.
 BY_DESCRIPTOR = re.compile(
     r"/dev/(?:fd|stdin|stdout|stderr)\b.*|/proc/[^/]+/(?:task/[^/]+/)?(?:fd|cwd|root|map_files)\b.*"
@@ -368,7 +370,13 @@ class Causes:
         is_file = is_plain(one.name) and bool(one.things)
         # the folder itself is the system's in both runs
         is_led = os.path.normpath(one.name) != "." and leads_to_files(one.name, self.folder)
-        return is_path and (is_file or is_led or bool(MAKES_A_NAME.fullmatch(one.call)))
+        return is_path and (is_file or is_led or bool(MAKES_A_NAME.fullmatch(one.call)) or self.is_looked_at(one))
+
+    def is_looked_at(self, one: Past) -> bool:
+        """Whether it made a name of the system alone at which a process has looked after it."""
+        looks = [it for it in self.noted if it.kind == past.LOOK and it.place >= one.place] if is_plain(one.name) else []
+        name = one.name.rpartition("/")[2]
+        return bool(MAKES_A_LINK.fullmatch(one.call)) and any(it.name.startswith(f"{name} = ") for it in looks)
 
     def killed(self, parting: Parting) -> str:
         """The signal that ended a process which made more calls in one run, or nothing."""

@@ -189,11 +189,24 @@ BY_ORDER = "the order of the calls"
 BAD_ADDRESS = "a bad address, which is no EFAULT with fdref's library"
 UNTOLD = f"{causes.NUMBERS}, or an answer that has no line, as those of stat, access, truncate and fsync"
 OTHER_WAY = "the calls differ, not the answers"
-# The functions that make a call which may wait.
+# The functions that make a call which may wait, and, where they have other names than it, those that make another one.
 SAME_CALLS = {
     "open": ("open", "openat", "creat", "open64", "openat64", "creat64"),
-    "read": ("read", "readv", "__read_c"),
+    "read": ("read", "readv", "__read_chk"),
     "write": ("write", "writev", "dprintf", "vdprintf"),
+}
+OTHER_NAMES = {
+    "pread": ("__pread_chk", "__pread64_chk"),
+    "dup2": ("dup3", "fcntl", "fcntl64"),
+    "pipe": ("pipe2",),
+    "close": ("close_range",),
+    "mkfifo": ("mkfifoat",),
+    "link": ("linkat",),
+    "unlink": ("unlinkat", "remove"),
+    "rename": ("renameat", "renameat2"),
+    "getfl": ("fcntl", "fcntl64", "ioctl"),
+    "setfl": ("fcntl", "fcntl64", "ioctl"),
+    "fstat": ("__fxstat", "__fxstat64"),
 }
 # The statuses of what a timer ends.
 TIMED = (-signal.SIGALRM, -signal.SIGVTALRM, -signal.SIGPROF)
@@ -365,11 +378,13 @@ class Both(NamedTuple):
     inside: Mapping[int, str] = {}
     # how many of its processes have exited by themselves
     exited: int = 0
+    # the calls in which all its processes were at last
+    last_calls: Mapping[int, str] = {}
 
 
 # What stands at the end of what native processes share: of each the number of one more than its own, and its call; and
 # before that the exits that they have made.
-INSIDE = struct.Struct("@Q8sqQ")
+INSIDE = struct.Struct("@Q16sqQ")
 EXIT = struct.Struct("@Q")
 INSIDE_MOST = EXITS_MOST = 1024
 
@@ -508,11 +523,12 @@ class Job:
         system, system_log = self.ran("system", FDREF_SHARED=str(shared))
         told = shared.read_bytes() if shared.exists() else b""
         inside = inside_of(told)
+        last_calls = inside
         if system.status is not None:
             # of a child that a signal ended it is not known whether it came from another process
             inside = {0: inside[0]} if 0 in inside and -system.status in CRASHES else {}
         noted = self.past("fdref"), still.told, self.past("system")
-        return Both(system, fdref, system_log, fdref_log, trace, *noted, inside, exited_in(told))
+        return Both(system, fdref, system_log, fdref_log, trace, *noted, inside, exited_in(told), last_calls)
 
     def audited(self) -> str:
         """What the audit says of the trace."""
@@ -561,6 +577,7 @@ class Verdict:
         self.looks = self.looked_apart()
         self.stuck = self.stuck_calls()
         self.crashes = [CRASHES[number] for number in past.signals(self.past) if number in CRASHES]
+        self.lone_crashes = self.crashed_alone()
         if not self.compared.fdref.total() and not self.compared.system.total():
             told = told_started(self.compared.started) + past.told_past(self.past) + told_fault(both.fdref)
             raise CannotJudge("; ".join([NO_CALLS, *told]))
@@ -637,7 +654,18 @@ class Verdict:
         lefts = [it for it in lefts if it.fdref and not it.fdref.outcome.startswith(("parked ", "part "))]
         numbers = self.compared.system.numbers
         is_in = {way: self.both.inside.get(numbers[way], "").partition(" ")[0] for way in numbers}
-        return [it for it in lefts if it.fdref and is_in.get(it.way, "") in SAME_CALLS.get(word_of(it.fdref), ())]
+        has_crashed = self.crash_on_system() not in (0, signal.SIGSYS)
+        return [it for it in lefts if it.fdref and makes(is_in.get(it.way, ""), word_of(it.fdref), has_crashed)]
+
+    def crash_on_system(self) -> int:
+        """The signal of a crash that ended the program on the system alone, or 0."""
+        system, fdref = self.both.system.status, self.both.fdref.status
+        return -system if system is not None and system != fdref and -system in CRASHES else 0
+
+    def crashed_alone(self) -> list[past.Past]:
+        """The children that a signal of a crash ended on the system, and not with fdref."""
+        others = {it.name for it in self.past if it.kind == past.SIGNAL and int(it.call) in CRASHES}
+        return [it for it in past.crashed(self.native, CRASHES) if it.name not in others]
 
     def told_stuck(self) -> str:
         """The call in which a process of the system was to the end, and that fdref has answered: that of the system where
@@ -760,7 +788,14 @@ class Verdict:
         killed, cause = self.causes.killed(finding.parting), self.causes.of(finding)
         other = self.causes.other(finding.parting, self.is_timed())
         is_crash = not finding.parting.fdref and self.both.fdref.status in (-signal.SIGSEGV, -signal.SIGBUS)
-        return killed or (cause.why() if cause else BAD_ADDRESS if is_crash else other)
+        is_ended = not finding.parting.system and self.compared.system.numbers.get(finding.parting.way) == 0
+        ended = self.told_crash(0, self.crash_on_system()) if is_ended and self.crash_on_system() else ""
+        return killed or (cause.why() if cause else BAD_ADDRESS if is_crash else ended or other)
+
+    def told_crash(self, process: int, number: int) -> str:
+        """The signal of a crash that ended a process on the system alone, and in which call it was."""
+        call = self.both.last_calls.get(process, "")
+        return f"{signal_named(number)}, which ended p{process} on the system alone" + (f", in {call}" if call else "")
 
     def has_cause(self, finding: Finding) -> bool:
         """Whether there is such a thing."""
@@ -780,6 +815,8 @@ class Verdict:
         if self.findings:
             by_order = " or ".join([handled] * bool(handled) + [BY_ORDER])
             return self.said_reasons(self.counted()) or by_order
+        if self.crash_on_system():
+            return self.told_crash(0, self.crash_on_system())
         late = [it.why() for it in self.causes.every if it.kind == past.SIGNAL]
         if late or self.is_timed():
             return late[0] if late else causes.TIMERS
@@ -806,11 +843,18 @@ class Verdict:
         """The exit status."""
         if self.differs() or not self.audit.startswith("legal "):
             return 1
-        if self.is_caused() or not self.has_ended() or crash_of(self.both) or self.crashes:
+        if self.is_caused() or not self.has_ended() or crash_of(self.both) or self.crashes or self.lone_crashes:
             return 3
         is_alike = not self.counted() and not self.flags and not (self.order and self.order.is_roomy)
         is_alike = is_alike and not told_not_ended(self.native)
         return 0 if is_alike and self.both.system == self.both.fdref else 3
+
+
+def makes(function: str, word: str, has_crashed: bool) -> bool:
+    """Whether a function makes the call of a word, of those that may wait, or, where it has crashed, of all."""
+    if not has_crashed or function in SAME_CALLS.get(word, ()):
+        return function in SAME_CALLS.get(word, ())
+    return function.strip("_").removesuffix("64") == word or function in OTHER_NAMES.get(word, ())
 
 
 # ---- telling
@@ -890,6 +934,12 @@ def told_firsts(both: Both) -> list[str]:
     if len(ended) == 2 and len(set(ended.values())) == 1:
         ended = {"in both": ended[WHERE["system"]]}
     return [f"{where} the program itself {it}, and others of its processes went on" for where, it in ended.items()]
+
+
+def told_lone_crash(verdict: Verdict) -> str:
+    """The first child that a crash ended on the system alone."""
+    it = verdict.lone_crashes[0]
+    return verdict.told_crash(int(it.name.removeprefix("p")), int(it.call))
 
 
 def do_outputs_differ(both: Both) -> bool:
@@ -1052,6 +1102,8 @@ def told_not_judged(verdict: Verdict) -> str:
         return "neither of the two ended" + (", but for the program itself" if is_gone else "")
     if crash_of(verdict.both) or verdict.crashes:
         return "a crash is no agreement"
+    if verdict.lone_crashes:
+        return f"a crash is no agreement: {told_lone_crash(verdict)}"
     if verdict.flags_by:
         return f"{past.told_flags(verdict.flags)[0]}, perhaps by {verdict.flags_by.why()}"
     if verdict.both.system == verdict.both.fdref:

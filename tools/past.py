@@ -6,7 +6,7 @@ A line is `! 6 p0 stream fopen`, and after a tab the name that the call has, if 
 
 import errno
 import re
-from collections.abc import Sequence
+from collections.abc import Container, Sequence
 from typing import NamedTuple
 
 from support.runs import Line
@@ -52,6 +52,8 @@ ERRNO = "errno"
 # A native fsync that has failed as a disk may, or has told of a pipe what each system may, or an isatty beside threads
 # that tells a terminal, or a wait that tells of a child that has stopped or goes on: what it gave.
 GIVEN = "given"
+# What stands after the call of an exec whose environment is without the library.
+BARE = " in another environment"
 COUNTED = {
     PATH: "path",
     STREAM: "stream",
@@ -113,7 +115,13 @@ class Past(NamedTuple):
         }
         if self.kind == CALL and self.name.isdigit():
             return f"{self.call} on descriptor {self.name}"
+        if self.is_bare():
+            return f"{self.call.removesuffix(BARE)}{between}{self.name}, whose environment is without fdref's library"
         return said.get(self.kind) or (f"{self.call}{between}{self.name}" if self.name else self.call)
+
+    def is_bare(self) -> bool:
+        """Whether it is an exec whose environment is without the library."""
+        return self.kind == PROGRAM and self.call.endswith(BARE)
 
     def is_past(self) -> bool:
         """Whether it is a call that went past fdref, and not what holds one of fdref."""
@@ -123,7 +131,7 @@ class Past(NamedTuple):
     def why(self) -> str:
         """The same as what a difference may be by."""
         said = self.said(" of ")
-        return f"{said}, which went past fdref" if self.is_past() else said
+        return f"{said}, which went past fdref" if self.is_past() and not self.is_bare() else said
 
     def descriptor(self) -> str:
         """The descriptor of fdref that it is with, or nothing."""
@@ -342,6 +350,11 @@ def killed_by(every: list[Past], number: int) -> set[int]:
 def signals(every: list[Past]) -> list[int]:
     """The signals that ended children."""
     return sorted({int(it.call) for it in every if it.kind == SIGNAL})
+
+
+def crashed(every: list[Past], crashes: Container[int]) -> list[Past]:
+    """The processes with known numbers that one of these signals ended, as their parents were told of it."""
+    return [it for it in every if it.kind == SIGNAL and int(it.call) in crashes and it.name]
 
 
 def places_of(kind: str, every: list[Past]) -> dict[int, int]:

@@ -14,11 +14,11 @@ struct shared {
     struct named named[NAMED_MOST];
     /* the exits of processes as they make them: the number in the system, and the status after that */
     uint64_t exits[EXITS_MOST];
-    /* the calls that native processes are in which may wait, by their numbers in the system: with the descriptor, or
-       -1, and how many bytes */
+    /* the calls that native processes are in, by their numbers in the system: of one that may wait with the descriptor,
+       else -1, and how many bytes */
     struct inside {
         uint64_t number;
-        char name[8];
+        char name[16];
         int64_t fd;
         uint64_t size;
     } inside[EXITS_MOST];

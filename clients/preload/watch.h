@@ -338,11 +338,13 @@ static int is_idle(int number)
            && action.sa_handler == SIG_DFL;
 }
 
-static struct masked mask_behind(void)
+static struct masked mask_behind(const char *name)
 {
     struct masked before = {is_watching(), runs, {{0}}, NULL, NULL, {0, 0, 0, ANY_IS_DUE}};
     sigset_t idle;
     int error = errno;
+    if (before.is_known)
+        say_inside(own_pid, (uint64_t)native_number + 1, name, -1, 0);
     sigemptyset(&idle);
     for (int at = 0; before.is_known && at < IDLE_SIGNALS; at++)
         if (is_idle(idle_signals[at]))
@@ -363,6 +365,8 @@ static int64_t looked_at_mask(const char *name, int64_t value)
     sigset_t now;
     end_erring(&masked_behind.erring, name, value, 1);
     error = errno;
+    if (is_watching())
+        say_inside(own_pid, 0, "", -1, 0);
     if (masked_behind.is_known && masked_behind.runs == runs && pthread_sigmask(SIG_BLOCK, NULL, &now) == 0
         && !are_same(&masked_behind.signals, &now))
         note_wrong(name, "has changed which signals are blocked");
@@ -370,7 +374,7 @@ static int64_t looked_at_mask(const char *name, int64_t value)
     return value;
 }
 
-#define BEHIND_OF(name, call) (go_behind(), masked_behind = mask_behind(), looked_at_mask(name, back(call)))
+#define BEHIND_OF(name, call) (go_behind(), masked_behind = mask_behind(name), looked_at_mask(name, back(call)))
 #define BEHIND(call) BEHIND_OF(__func__, call)
 
 /* ---- SIGPIPE

@@ -1,7 +1,7 @@
 /* Goes another way with fdref, or gets another answer, by what is no answer of fdref.
 
    usage: judge_otherwise sends|unnamed|limits|makes|advises|times|resolves|by-number|environment|
-                          renames
+                          renames|links|bare
 
    sends        sends its file into a pipe by sendfile, and reads the other end
    unnamed      writes by pwritev into its file, whose name is gone, and reads it by another descriptor
@@ -12,7 +12,10 @@
    resolves     writes something else where realpath does not find its file
    by-number    prints whether its file can be read by a path of its descriptor
    environment  writes its environment into its file
-   renames      gives its file, which is at descriptor 1, too, another name by renameat2, and opens it by the first */
+   renames      gives its file, which is at descriptor 1, too, another name by renameat2, and opens it by the first
+   links        opens a file where it finds the symbolic link that it has made
+   bare         runs itself without its environment, to write into its file
+   writes       writes into descriptor 3 */
 
 #define _GNU_SOURCE
 
@@ -23,7 +26,9 @@
 #include <string.h>
 #include <sys/resource.h>
 #include <sys/sendfile.h>
+#include <sys/stat.h>
 #include <sys/uio.h>
+#include <sys/wait.h>
 #include <time.h>
 #include <unistd.h>
 
@@ -75,6 +80,22 @@ static int renames(int fd)
     return open("a", O_RDONLY) == 0;
 }
 
+static int links(void)
+{
+    struct stat told;
+    return symlink("a", "l") != 0 || (lstat("l", &told) == 0 && open("b", O_RDWR | O_CREAT, 0600) < 0);
+}
+
+static int bare(int fd, char *path)
+{
+    char *list[] = {path, (char[]){"writes"}, NULL}, *none[] = {NULL};
+    if (fork() == 0) {
+        execve(path, list, none);
+        _exit(1);
+    }
+    return wait(NULL) < 0 || lseek(fd, 0, SEEK_END) < 0;
+}
+
 static double now(void)
 {
     struct timespec time;
@@ -115,9 +136,12 @@ static int environment(int fd)
 int main(int count, char **words)
 {
     const char *what = count > 1 ? words[1] : "";
+    if (strcmp(what, "writes") == 0)
+        return says(3, text);
     int fd = open("a", O_RDWR | O_CREAT, 0600);
     if (fd < 0 || (strcmp(what, "sends") == 0 && sends(fd)) || (strcmp(what, "unnamed") == 0 && unnamed(fd))
-        || (strcmp(what, "renames") == 0 && renames(fd)))
+        || (strcmp(what, "renames") == 0 && renames(fd)) || (strcmp(what, "links") == 0 && links())
+        || (strcmp(what, "bare") == 0 && bare(fd, words[0])))
         return 1;
     if (strcmp(what, "advises") == 0)
         return says(fd, posix_fadvise(fd, 0, 0, POSIX_FADV_SEQUENTIAL) == 0 ? "advised" : "not");

@@ -490,6 +490,18 @@ static void run_folder(void)
     execv("/", words);
 }
 
+/* Goes back to the start of a file, or a child does. */
+static void seek_back(void) { lseek(open("a", O_RDWR | O_CREAT, 0600), 0, SEEK_SET); }
+
+static void seek_back_in_child(void)
+{
+    if (fork() == 0) {
+        seek_back();
+        _exit(0);
+    }
+    wait(NULL);
+}
+
 /* Opens a FIFO that a child opens after a while. */
 static void open_fifo(void)
 {
@@ -838,6 +850,7 @@ int main(int count, char **words)
         {"file-apart", ask_for_files},  {"file-same", ask_for_files},
         {"names", ask_for_names},
         {"exec-error", run_nothing},    {"exec-unlike", run_folder},
+        {"seek-crashes", seek_back},    {"child", seek_back_in_child},
         {"access-refused", ask},        {"read-beyond", take_few},
         {"cloexec-thread", keep_flags_after_thread},
         {"restart-lost", restart},      {"never-beside", read_beside},

@@ -72,6 +72,7 @@
    end-hangs       a read of a pipe never comes back at its end
    own-beside      the same, and one of a file gives another byte
    read-crashes    a read ends the process by SIGSEGV
+   seek-crashes    lseek from the start does so
    whence-taken    lseek takes any whence for SEEK_SET
    whence-piped    lseek in a pipe gives 0 for a whence that there is not
    end-lost        lseek takes SEEK_END for SEEK_SET
@@ -381,7 +382,10 @@ int execl(const char *path, const char *word, ...)
 
 off_t lseek(int fd, off_t offset, int whence)
 {
+    static int *volatile nowhere;
     int is_other = whence < SEEK_SET || whence > SEEK_HOLE;
+    if (whence == SEEK_SET && is_wrong("seek-crashes"))
+        *nowhere = 1;
     if ((is_other && is_wrong("whence-taken")) || (whence == SEEK_END && is_wrong("end-lost")))
         whence = SEEK_SET;
     if (is_other && is_wrong("whence-piped") && syscall(SYS_lseek, fd, 0L, SEEK_CUR) < 0 && errno == ESPIPE)

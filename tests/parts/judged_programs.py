@@ -155,6 +155,7 @@ OTHERWISE: list[tuple[str, tuple[str, ...], str]] = [
     ("times", (f"{OTHER_WAY}{NUMBERS}",), NUMBERS),
     ("resolves", ("system: p0 write 3 x666f756e64 = 5",), "realpath of a, which went past fdref"),
     ("renames", ("system: p0 open a r = error ENOENT",), "renameat2 with flags of a, which went past fdref"),
+    ("links", ("system: p0 open b rw,creat = 4",), "symlink of l, which went past fdref"),
     ("environment", (f"{OTHER_WAY}the environment",), "the environment, in which judge.py sets variables of its own"),
 ]
 
@@ -575,6 +576,8 @@ def cases(bench: Bench) -> Iterator[Case]:
             name = f"a signal that ends a call, which {word} makes: {wrong}"
             yield name, partial(goes_on_after_signals, bench, wrong, word, status, last)
     yield "names of one file, and of two", partial(names_files, bench)
+    yield "a program without its environment", partial(tells_bare, bench)
+    yield "a child that crashes on the system alone", partial(crashes_in_child, bench)
     yield "F_SETFL and F_SETFD that give another number than 0", partial(takes_any_number, bench)
     for word, told in GIVEN.items():
         yield f"a call that is not compared: {word}", partial(leaves_open, bench, word, told)
@@ -826,6 +829,7 @@ WRONGED = {
     "file-same": f"{OF_SYSTEM}p0 fstat: tells one file where there are two",
     "fifo-regular": f"{OF_SYSTEM}p0 mkfifo: has made no FIFO, as lstat tells",
     "exec-error": f"{OF_SYSTEM}p0 execv: has failed with error {errno.EIO}, and ENOENT is due",
+    "seek-crashes": f"{DIFFERS}p0 lseek 5 0 set has not come back on the system, where signal 11 (SIGSEGV) ended it",
     "fifo-early": f"{OF_SYSTEM}p0 open f w: has come back before another one began to open the other end",
     "restart-lost": f"{OF_SYSTEM}p0 sigaction: has set SA_RESTART otherwise than it was asked for",
     "never-beside": f"{DIFFERS}p0 read 3 1 has not come back on the system, which was killed in it",
@@ -906,6 +910,23 @@ def names_files(bench: Bench) -> None:
         ran = bench.judged(*words, variables=(f"WRONG={wrong}",))
         line = told if told == NOT_ALL else f"{OF_SYSTEM}p0 stat: tells {told}"
         require(ran.stdout.decode("ascii").splitlines()[-1].startswith(line), ran.said())
+
+
+def tells_bare(bench: Bench) -> None:
+    """A program that is run without its environment is no process of fdref, which is told as the cause."""
+    program = bench.compiled("judge_otherwise")
+    ran = bench.judged("--shim", bench.shim(), program, "bare")
+    told = f"{DIFFERS_BY}execve of {program}, whose environment is without fdref's library; "
+    require(ran.status == 3 and ran.stdout.decode("ascii").splitlines()[-1].startswith(told), ran.said())
+
+
+def crashes_in_child(bench: Bench) -> None:
+    """That a child has crashed on the system alone is no agreement, whatever order explains its calls."""
+    judged_wronged(bench, "seek-crashes")
+    words = ("--shim", bench.shim(), "--preload", bench.path("wrong.so"), bench.compiled("judge_wronged"), "child")
+    ran = bench.judged(*words, variables=("WRONG=seek-crashes",))
+    told = f"{NOT_JUDGED}a crash is no agreement: signal 11 (SIGSEGV), which ended p1 on the system alone, in lseek"
+    same((3, told), (ran.status, ran.stdout.decode("ascii").splitlines()[-1]))
 
 
 def takes_any_number(bench: Bench) -> None:
