@@ -5,6 +5,8 @@ usage: python3 tests
 """
 
 import ast
+import os
+import shutil
 import subprocess
 import sys
 from collections.abc import Sequence
@@ -24,6 +26,13 @@ def first_line(path: Path) -> str:
     return text.partition("\n")[0]
 
 
+def wanting(known: dict[str, Path]) -> list[str]:
+    """The tests that leave something out, since no C compiler is found here."""
+    if any(map(shutil.which, ("gcc", "clang", os.environ.get("CC", "cc")))):
+        return []
+    return [name for name, path in known.items() if "lacks_compiler(" in path.read_text(encoding="utf-8")]
+
+
 def main(words: Sequence[str]) -> int:
     """Lists the tests, or runs the one that is named: the exit status."""
     known = tests()
@@ -33,6 +42,9 @@ def main(words: Sequence[str]) -> int:
         print("\npython3 tests/NAME.py runs one, on programs that are built, and its --help tells its options.")
         print("Its last line is `N passed, M failed`. .ci/run proves and builds all, and runs all of them but")
         print("`edits` and `wrong_servers`, which take long.")
+        names = ", ".join(wanting(known))
+        if names:
+            print(f"\nNo C compiler is found here. These leave out what needs one: {names}.")
         return 0
     name = words[0]
     if name not in known:

@@ -33,7 +33,7 @@ from typing import Any
 from parts import asked_drivers, planted_answers
 from parts.planted_answers import BOTH_WAYS, FILED, FULL, LEFT_OUT, ORDER, PIPED, STILL, Row
 from stand_ins import wrong_oracle
-from support.counting import Case, Count, Failure, require, same
+from support.counting import Case, Count, Failure, lacks_compiler, require, same
 from support.drivers import IS_LINUX, NOT_AN_ACT, Driver
 from support.options import PROGRAM, count_option, end_without, parsed
 from support.places import EXAMPLES, STAND_INS, TOOLS
@@ -636,7 +636,7 @@ def main(words: Sequence[str]) -> int:
     compiler = os.environ.get("CC", "cc")
     count = Count()
     if not shutil.which(compiler):
-        print("no C compiler: tools/ask_kernel.c is not compiled, and no system is asked")
+        lacks_compiler("tools/ask_kernel.c is not compiled, and no system is asked")
         return count.end()
     end_without(args.program)
     with tempfile.TemporaryDirectory(prefix="ask-") as folder:

@@ -32,7 +32,7 @@ from pathlib import Path
 
 from parts import c_calls, c_traces
 from parts.c_programs import INCLUDES, SOURCES, WARNINGS, builds, can, compilers, compiles
-from support.counting import Case, Count, same
+from support.counting import Case, Count, lacks_compiler, same
 from support.options import ONLY, PROGRAM, SEED, asked, count_option
 from support.running import run
 
@@ -96,7 +96,7 @@ def main(words: Sequence[str]) -> int:
                 ("examples in C", c_traces.examples(program, every, folder)),
             ]
         else:
-            print("no C compiler: clients/c/fdref.h is not compiled, and its functions are not called")
+            lacks_compiler("clients/c/fdref.h is not compiled, and its functions are not called")
         return Count(TELL_MOST).parts(parts, args.only)
 
 

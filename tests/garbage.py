@@ -35,7 +35,7 @@ from typing import NamedTuple
 
 from parts import garbage_clients, garbage_load, garbage_scripts, garbage_traces
 from parts.c_programs import Build, builds
-from support.counting import Case, Count, Failure, require
+from support.counting import Case, Count, Failure, lacks_compiler, require
 from support.options import ONLY, PROGRAM, SEED, asked, count_option, seconds_option
 
 TELL_MOST = 10
@@ -139,7 +139,7 @@ def main(words: Sequence[str]) -> int:
         folder = os.path.realpath(given)
         ways = sanitized(folder)
         if not ways:
-            print("no C compiler: the driver, the load generator and the client in C are left out", flush=True)
+            lacks_compiler("the driver, the load generator and the client in C are left out")
         setting = Setting(args.program, folder, ways, args.seed, args.first, met)
         parts = (IN_C if ways else {}) | OTHERS
         made = [(name, cases(make, setting, args.seconds)) for name, make in parts.items()]

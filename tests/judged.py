@@ -17,7 +17,7 @@ from collections.abc import Iterator, Sequence
 
 from parts import gnulib, judged_logs, judged_programs
 from parts.c_programs import compilers
-from support.counting import Case, Count
+from support.counting import Case, Count, lacks_compiler
 from support.options import ONLY, PROGRAM, asked
 from support.signals import heed
 
@@ -54,7 +54,7 @@ def main(words: Sequence[str]) -> int:
     parts: list[Part] = [("logs", judged_logs.cases()), ("orders", judged_logs.order_cases(args.program))]
     found = compilers()
     if not found:
-        print("no C compiler: no program is judged")
+        lacks_compiler("no program is judged")
         return count.parts(parts, args.only)
     with tempfile.TemporaryDirectory(prefix="fdref-") as folder:
         bench = judged_programs.Bench(found[0], args.program, folder)

@@ -31,7 +31,7 @@ from collections.abc import Sequence
 from parts import clocked_clients, history_lines, lane_histories, order_tool, random_histories, told_histories
 from parts import waiting_tool
 from parts.c_programs import builds
-from support.counting import Count
+from support.counting import Count, lacks_compiler
 from support.options import ONLY, PROGRAM, SEED, asked, count_option
 
 TELL_MOST = 10
@@ -61,7 +61,7 @@ def main(words: Sequence[str]) -> int:
         if every:
             parts.append(("live clients", clocked_clients.cases(program, every[0], args.seed, args.calls)))
         else:
-            print("no C compiler: there are no clients of a live server at full speed")
+            lacks_compiler("there are no clients of a live server at full speed")
         return Count(TELL_MOST).parts(parts, args.only)
 
 

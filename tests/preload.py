@@ -27,7 +27,7 @@ from parts.preload_builds import Library, documented_command, libraries
 from parts.preload_functions import functions
 from parts.preload_programs import endings, left_out, programs
 from parts.preload_system import commands
-from support.counting import Case, Count, require
+from support.counting import Case, Count, lacks_compiler, require
 from support.options import ONLY, PROGRAM, asked
 from support.signals import heed
 
@@ -74,7 +74,7 @@ def main(words: Sequence[str]) -> int:
     with tempfile.TemporaryDirectory(prefix="fdref-") as folder:
         every = libraries(folder)
         if not every:
-            print("no C compiler: the library of clients/preload is not built")
+            lacks_compiler("the library of clients/preload is not built")
         return Count(TELL_MOST).parts(parts_of(args.program, every), args.only)
 
 

@@ -29,7 +29,7 @@ from pathlib import Path
 from parts import race_files
 from parts.c_programs import SANITIZERS, WARNINGS, can, compilers, compiles
 from support import histories, ordering
-from support.counting import Case, Count, Failure, require, same
+from support.counting import Case, Count, Failure, lacks_compiler, require, same
 from support.drivers import IS_LINUX, Driver
 from support.histories import Noted
 from support.options import ONLY, PROGRAM, count_option, end_without, parsed
@@ -666,7 +666,7 @@ def main(words: Sequence[str]) -> int:
     args = parsed(words, "Races processes on the system at hand, and on wrong ones.", PROGRAM, seconds, ONLY)
     count = Count(also=(CannotRun, Differs, histories.BadHistory))
     if not compilers():
-        print("no C compiler: tools/race_kernel.c is not compiled, and no system is raced")
+        lacks_compiler("tools/race_kernel.c is not compiled, and no system is raced")
         return count.end()
     end_without(args.program)
     with tempfile.TemporaryDirectory(prefix="race-") as folder:

@@ -27,7 +27,7 @@ from typing import Any
 
 from parts.c_programs import compilers
 from support import tallies
-from support.counting import Case, Count, require, same
+from support.counting import Case, Count, lacks_compiler, require, same
 from support.drivers import compiled
 from support.options import ONLY, PROGRAM, asked
 from support.places import TESTS, TOOLS
@@ -258,7 +258,7 @@ def main(words: Sequence[str]) -> int:
         if compilers():
             parts.append(("system", asked_cases(bench)))
         else:
-            print("no C compiler: no system is asked")
+            lacks_compiler("no system is asked")
         sums = [("all is met", partial(all_is_met, bench)), ("struck acts", partial(struck_acts_add_up, bench))]
         return Count().parts([*parts, ("sums", iter(sums)), ("refused", refused_cases(bench))], args.only)
 

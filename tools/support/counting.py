@@ -1,7 +1,9 @@
 """Counting checks: which pass, which fail and why, and the exit status that comes of them."""
 
 import subprocess
+import sys
 from collections.abc import Callable, Iterable
+from pathlib import Path
 
 # A case: its name, and what checks it, which raises what was wrong.
 Case = tuple[str, Callable[[], object]]
@@ -24,6 +26,15 @@ def require(condition: object, text: str) -> None:
 def same(wanted: object, given: object) -> None:
     """Fails unless two values are equal."""
     require(wanted == given, f"wanted {wanted}, given {given}")
+
+
+# What the end of a count tells that was not tried for want of a C compiler.
+_untried: list[str] = []
+
+
+def lacks_compiler(told: str) -> None:
+    """Lets the end of the count tell what was not tried, since there is no C compiler."""
+    _untried.append(told)
 
 
 class Count:
@@ -83,6 +94,8 @@ class Count:
         return f"{self.passed} passed, {self.failed} failed"
 
     def end(self) -> int:
-        """Prints the last line of a test, and gives its exit status."""
+        """Prints the last line of a test, after what it has not tried, and gives its exit status."""
+        for told in _untried:
+            print(f"not tried for want of a C compiler: tests/{Path(sys.argv[0]).name}: {told}")
         print(self.line())
         return 1 if self.failed else 0
