@@ -374,9 +374,10 @@ class Causes:
 
     def is_looked_at(self, one: Past) -> bool:
         """Whether it made a name of the system alone at which a process has looked after it."""
-        looks = [it for it in self.noted if it.kind == past.LOOK and it.place >= one.place] if is_plain(one.name) else []
-        name = one.name.rpartition("/")[2]
-        return bool(MAKES_A_LINK.fullmatch(one.call)) and any(it.name.startswith(f"{name} = ") for it in looks)
+        if not MAKES_A_LINK.fullmatch(one.call) or not is_plain(one.name):
+            return False
+        looks = (it.name for it in self.noted if it.kind == past.LOOK and it.place >= one.place)
+        return any(name.startswith(f"{one.name.rpartition('/')[2]} = ") for name in looks)
 
     def killed(self, parting: Parting) -> str:
         """The signal that ended a process which made more calls in one run, or nothing."""

@@ -69,10 +69,12 @@ The last line says what the exit status means:
    signal ended, a descriptor that no call of fdref made, and a right. Or no order gives the answers; or the audit
    finds a fault. Or a call of the system does what it may not beside its answer: it sets errno to 0, or fails
    without setting it, or not with EBADF where nothing is open at a number from 32 on, tells one file as two,
-   makes no FIFO, opens one before the other end is opened, blocks other signals, SIGPIPE comes otherwise than once with EPIPE, SA_RESTART is set otherwise, it goes on after a signal that
+   makes no FIFO, opens one before the other end is opened, blocks other signals, SIGPIPE comes otherwise than once
+   with EPIPE, SA_RESTART is set otherwise, it goes on after a signal that
    ends it (as x86-64 alone tells), a wait tells otherwise of a child than the kernel (which, where a handler ends
    calls, keeps that from Linux 6.15 on), a fork another number than the child has, F_SETFL sets other flags, an exec
-   gives a program other words, or fails with another error than that of a path which leads to nothing, a read changes what is beyond its buffer; or it has not come back to the end
+   gives a program other words, or fails with another error than that of a path which leads to nothing, a read
+   changes what is beyond its buffer; or it has not come back to the end, or a crash has ended it
 2  wrong words
 3  not judged: answers differ that have a reason; or one of these may be why; or a process makes another call, so
    that its program went another way, as by the time, a timer, the number of a process, an address or a mode; or

@@ -684,8 +684,8 @@ static void end_moving(struct moving *it, int64_t given)
         let_pipes(&it->pipes, words[it->going.act.kind - FDREF_OPEN], given, it->going.act.count);
 }
 
-/* What is due where nothing is open of a transfer of this size, or from an offset on that may be refused. One of nothing
-   may find no error. */
+/* What is due where nothing is open of a transfer of this size, or from an offset on that may be refused. One of no
+   bytes may find no error. */
 static enum due due_of(const struct fdref_act *act)
 {
     if (act->count == 0 || act->count > SSIZE_MAX)

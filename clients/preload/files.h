@@ -72,8 +72,8 @@ struct told_file {
     struct identity told, own;
 };
 
-/* What a native fstat has told of each descriptor that is open, and natively a look at a name of late, as long as no name
-   has gone. */
+/* What a native fstat has told of each descriptor that is open, and looks at names of late, as long as no name has
+   gone. */
 enum { TOLD_NAMES = 16 };
 static struct told_file told_files[NUMBERS], told_names[TOLD_NAMES];
 static unsigned name_stamp;

@@ -862,8 +862,8 @@ static int missing_program(const struct program *program)
     return getenv("PATH") ? missing_in(getenv("PATH"), program->path) : 0;
 }
 
-/* Notes natively that an exec has failed otherwise than by the error of a path which leads to nothing before it and after
-   it. Of another one the error is not compared, where the kernel gives another one, or was not asked: -1. */
+/* Notes natively that an exec has failed otherwise than by the error of a path which leads to nothing before it and
+   after it. Of another one the error is not compared, where the kernel gives another one, or was not asked: -1. */
 static void check_exec_error(const struct program *program, int before, int error, int in_kernel)
 {
     static const int others[] = {E2BIG, ENOMEM, EAGAIN, ENAMETOOLONG, ELOOP};
@@ -881,8 +881,8 @@ static void check_exec_error(const struct program *program, int before, int erro
     }
 }
 
-/* A native exec has failed. Where the kernel goes on with the program that is noted by it, and else its error is given, or
-   -1. */
+/* A native exec has failed. Where the kernel goes on with the program that is noted by it, and else its error is given,
+   or -1. */
 static int run_otherwise(const struct program *program, char *const list[], char **with)
 {
     char failed[60];

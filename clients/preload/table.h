@@ -953,8 +953,8 @@ static enum way way_of_ours(void)
     return how == NATIVE ? NOTE : ASK;
 }
 
-/* What is due of the native call that this thread is about to make: EBADF, since its number is none of fdref's, and nothing
-   is open there; where its other words may be refused, too, any error; and else anything. */
+/* What is due of the native call that this thread is about to make: EBADF, since its number is none of fdref's, and
+   nothing is open there; where its other words may be refused, too, any error; and else anything. */
 enum due { ANY_IS_DUE, ERROR_IS_DUE, EBADF_IS_DUE };
 static __thread enum due due_now;
 

@@ -201,7 +201,7 @@ static void note_given(const char *name, int given, int error)
     notes("given", name, text);
 }
 
-/* Notes a native call that has not failed as it has to where nothing is open. Another thread may have opened something. */
+/* Notes a native call that has not failed as it has to where nothing is open. Another thread may have opened one. */
 static void check_due(const struct erring *it, const char *name, int64_t given, int error)
 {
     static const char *const with_descriptor[] = {

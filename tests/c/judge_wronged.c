@@ -437,8 +437,8 @@ static void ask_files(void)
         fstat(more[1], told + 4);
 }
 
-/* Asks which file each of three descriptors is, of which two are of one file, and then of other names; that of a file that is
-   gone may come again. */
+/* Asks which file each of three descriptors is, of which two are of one file; that of a file that is gone may come
+   again. */
 static void ask_for_files(void)
 {
     struct stat told[3];
@@ -700,7 +700,7 @@ static void do_each(void)
     close(fd);
 }
 
-/* Each call has a number that fdref has not, and nothing is open there; each of the last ones may fail by its other words. */
+/* Each call has a number that fdref has not, and nothing is open there; the last ones may fail by other words. */
 static void ask_above(void)
 {
     struct stat told;

@@ -905,10 +905,14 @@ def names_files(bench: Bench) -> None:
     """The st_ino that stat tells of names is compared, too."""
     program, library = bench.compiled("judge_wronged"), bench.path("wrong.so")
     judged_wronged(bench, "file-same")
-    for wrong, told in (("none", NOT_ALL), ("file-apart", "two files where there is one"), ("file-same", "one file where there are two")):
+    tells = f"{OF_SYSTEM}p0 stat: tells "
+    for wrong, line in (
+        ("none", NOT_ALL),
+        ("file-apart", f"{tells}two files where there is one"),
+        ("file-same", f"{tells}one file where there are two"),
+    ):
         words = ("--shim", bench.shim(), "--preload", library, program, "names")
         ran = bench.judged(*words, variables=(f"WRONG={wrong}",))
-        line = told if told == NOT_ALL else f"{OF_SYSTEM}p0 stat: tells {told}"
         require(ran.stdout.decode("ascii").splitlines()[-1].startswith(line), ran.said())
 
 
