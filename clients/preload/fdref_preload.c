@@ -247,10 +247,24 @@ struct going {
     int64_t done;
     struct slot slot;
     int is_cloexec;
-    unsigned stamp;
+    unsigned stamp, runs;
 };
 
 static int64_t gone(const struct going *it, int64_t given) { return it->way == NOTE ? noted(it->act, given) : given; }
+
+static int is_heard_elsewhere(void);
+
+/* Notes that the system has given a descriptor of its own another number than the lowest that was free. A handler may have
+   closed one. */
+static void check_lowest(const struct going *it, int64_t given)
+{
+    int at = 0, error = errno;
+    while (at < given && at < NUMBERS && is_open_in_kernel(at))
+        at++;
+    if (at < given && it->runs == runs && is_watching() && is_alone() && !is_heard_elsewhere())
+        note_wrong(words[it->act.kind - FDREF_OPEN], "has given another number than the lowest that is free");
+    errno = error;
+}
 
 /* The same of a call that makes the lowest free descriptor. */
 static int64_t gone_to_lowest(const struct going *it, int64_t given)
@@ -261,6 +275,7 @@ static int64_t gone_to_lowest(const struct going *it, int64_t given)
         tell_made(0, given);
         given = taken(noted(it->act, given), it->slot, it->is_cloexec);
     } else {
+        check_lowest(it, given);
         given = numbered((int)given, it->is_cloexec);
     }
     end_making();
@@ -318,6 +333,7 @@ static int is_opened(struct going *it, int folder, const char *name, int flags)
 {
     static const struct slot slot = {OURS, 0, 0, 0};
     it->way = way_in("open", folder, &name);
+    it->runs = runs;
     it->act = fdref_act_open(name, flags & ASKED_FLAGS);
     it->slot = slot;
     it->is_cloexec = (flags & O_CLOEXEC) != 0;
@@ -1018,6 +1034,7 @@ static int is_duplicated(struct going *it, int fd)
 {
     it->act = fdref_act_dup(fd);
     it->way = way_of(fd);
+    it->runs = runs;
     it->slot = slot_of(fd);
     it->is_cloexec = 0;
     begin_making();
@@ -1076,6 +1093,8 @@ static int is_duplicated_to(struct going *it, int fd, int to, int flags)
 static int64_t gone_to(const struct going *it, int64_t given)
 {
     int64_t done = gone(it, given);
+    if (it->way == PASS && how == NATIVE && !is_behind && done >= 0 && done != it->act.other)
+        note_wrong("dup2", "has given another number than it was asked for");
     if (!is_behind && it->act.fd != it->act.other && done >= 0)
         take(it->act.other, slot_of(it->act.fd), it->is_cloexec);
     return done;

@@ -161,6 +161,15 @@ static int takes_rights(long number)
     return at < count;
 }
 
+/* Notes that a call limits how many descriptors there may be, or the size of files. */
+static void note_limit(const long *given, int is_set)
+{
+    if (is_set && given[0] == RLIMIT_NOFILE)
+        goes_past('!', "limit", "RLIMIT_NOFILE", NULL);
+    if (is_set && given[0] == RLIMIT_FSIZE)
+        limit_size();
+}
+
 long syscall(long number, ...)
 {
     NEXT_OF(syscall);
@@ -181,6 +190,12 @@ long syscall(long number, ...)
         return (long)fails(ENOSYS);
     if (takes_rights(number))
         changes_rights("syscall");
+    if (number == SYS_prlimit64 && !is_inside)
+        note_limit(&given[1], given[2] != 0);
+#ifdef SYS_setrlimit
+    if (number == SYS_setrlimit && !is_inside)
+        note_limit(given, 1);
+#endif
     done = next(number, given[0], given[1], given[2], given[3], given[4], given[5]);
     if (number == SYS_rt_sigaction && given[1] != 0 && given[0] > 0 && given[0] < NSIG) {
         static const struct passed_on none;

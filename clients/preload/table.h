@@ -958,6 +958,9 @@ static enum way way_of_ours(void)
 enum due { ANY_IS_DUE, ERROR_IS_DUE, EBADF_IS_DUE };
 static __thread enum due due_now;
 
+/* Whether the descriptor of that call is one of the system alone, which is open. */
+static __thread int is_real_now;
+
 static void lessen_due(enum due most) { due_now = due_now < most ? due_now : most; }
 
 /* The way of a call with a descriptor. In a native run the kernel knows best which are open. */
@@ -967,10 +970,12 @@ static enum way way_of(int fd)
     prepare();
     if (!is_behind)
         due_now = how == NATIVE && fd >= NUMBERS && !is_open_in_kernel(fd) ? EBADF_IS_DUE : ANY_IS_DUE;
+    is_real_now &= is_behind;
     if (is_off() || is_behind || fd >= NUMBERS)
         return PASS;
     if (how == NATIVE && fd >= 0 && slots[fd].held != OURS)
         slots[fd].held = is_open_in_kernel(fd) ? REAL : FREE;
+    is_real_now = how == NATIVE && fd >= 0 && slots[fd].held == REAL;
     errno = error;
     return fd >= 0 && slots[fd].held == REAL ? PASS : way_of_ours();
 }

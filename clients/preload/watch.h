@@ -176,6 +176,7 @@ struct erring {
     int is_known, before;
     unsigned runs;
     enum due due;
+    int is_real;
 };
 
 /* What it was before the call that this thread is in, for handlers that come meanwhile. */
@@ -183,9 +184,11 @@ static __thread int errno_there;
 
 static struct erring begin_erring(int is_own)
 {
-    struct erring it = {is_watching() && is_own, errno, runs, due_now};
-    if (is_own)
+    struct erring it = {is_watching() && is_own, errno, runs, due_now, is_real_now};
+    if (is_own) {
         due_now = ANY_IS_DUE;
+        is_real_now = 0;
+    }
     if (it.is_known) {
         errno_there = errno;
         errno = NOT_SET;
@@ -208,7 +211,10 @@ static void check_due(const struct erring *it, const char *name, int64_t given, 
         "read", "write", "pread", "pwrite", "readv", "writev", "read_chk", "pread_chk", "pread64_chk", "lseek",
         "ftruncate", "dup", "dup2", "dup3", "fcntl", "ioctl", "fstat", "fxstat", "close", NULL,
     };
+    static const char *const of_any[] = {"dup", "fstat", "fxstat", "close", NULL};
     int is_due = given == -1 && (error == EBADF || it->due == ERROR_IS_DUE);
+    if (it->is_real && given == -1 && error == EBADF && is_among(name, of_any) && is_alone())
+        note_wrong(name, "has failed with EBADF, and its descriptor is open");
     if (it->due == ANY_IS_DUE || is_due || !is_among(name, with_descriptor))
         return;
     if (is_alone())
@@ -266,7 +272,7 @@ struct masked {
 
 static struct masked before_call(const char *name, struct ending *own)
 {
-    struct masked before = {is_watching(), runs, {{0}}, own, ending, {0, 0, 0, ANY_IS_DUE}};
+    struct masked before = {is_watching(), runs, {{0}}, own, ending, {0, 0, 0, ANY_IS_DUE, 0}};
     int error = errno;
     if (before.is_known)
         say_inside(own_pid, (uint64_t)native_number + 1, name, own ? own->fd : -1, own ? own->size : 0);
@@ -340,7 +346,7 @@ static int is_idle(int number)
 
 static struct masked mask_behind(const char *name)
 {
-    struct masked before = {is_watching(), runs, {{0}}, NULL, NULL, {0, 0, 0, ANY_IS_DUE}};
+    struct masked before = {is_watching(), runs, {{0}}, NULL, NULL, {0, 0, 0, ANY_IS_DUE, 0}};
     sigset_t idle;
     int error = errno;
     if (before.is_known)

@@ -1,7 +1,7 @@
 /* Goes another way with fdref, or gets another answer, by what is no answer of fdref.
 
    usage: judge_otherwise sends|unnamed|limits|makes|advises|times|resolves|by-number|environment|
-                          renames|links|bare
+                          renames|links|bare|raises
 
    sends        sends its file into a pipe by sendfile, and reads the other end
    unnamed      writes by pwritev into its file, whose name is gone, and reads it by another descriptor
@@ -15,7 +15,8 @@
    renames      gives its file, which is at descriptor 1, too, another name by renameat2, and opens it by the first
    links        opens a file where it finds the symbolic link that it has made
    bare         runs itself without its environment, to write into its file
-   writes       writes into descriptor 3 */
+   writes       writes into descriptor 3
+   raises       lets more descriptors be open, by a system call that no library sees, and has one above 31 */
 
 #define _GNU_SOURCE
 
@@ -27,6 +28,7 @@
 #include <sys/resource.h>
 #include <sys/sendfile.h>
 #include <sys/stat.h>
+#include <sys/syscall.h>
 #include <sys/uio.h>
 #include <sys/wait.h>
 #include <time.h>
@@ -86,6 +88,12 @@ static int links(void)
     return symlink("a", "l") != 0 || (lstat("l", &told) == 0 && open("b", O_RDWR | O_CREAT, 0600) < 0);
 }
 
+static int raises(int fd)
+{
+    const unsigned long long limits[] = {200, 200};
+    return syscall(SYS_prlimit64, 0, RLIMIT_NOFILE, limits, NULL) != 0 || dup2(fd, 99) == 0;
+}
+
 static int bare(int fd, char *path)
 {
     char *list[] = {path, (char[]){"writes"}, NULL}, *none[] = {NULL};
@@ -141,7 +149,7 @@ int main(int count, char **words)
     int fd = open("a", O_RDWR | O_CREAT, 0600);
     if (fd < 0 || (strcmp(what, "sends") == 0 && sends(fd)) || (strcmp(what, "unnamed") == 0 && unnamed(fd))
         || (strcmp(what, "renames") == 0 && renames(fd)) || (strcmp(what, "links") == 0 && links())
-        || (strcmp(what, "bare") == 0 && bare(fd, words[0])))
+        || (strcmp(what, "bare") == 0 && bare(fd, words[0])) || (strcmp(what, "raises") == 0 && raises(fd)))
         return 1;
     if (strcmp(what, "advises") == 0)
         return says(fd, posix_fadvise(fd, 0, 0, POSIX_FADV_SEQUENTIAL) == 0 ? "advised" : "not");

@@ -490,6 +490,13 @@ static void run_folder(void)
     execv("/", words);
 }
 
+/* Copies a descriptor that was there from the start. */
+static void copy_real(void)
+{
+    dup(1);
+    dup2(1, 12);
+}
+
 /* Goes back to the start of a file, or a child does. */
 static void seek_back(void) { lseek(open("a", O_RDWR | O_CREAT, 0600), 0, SEEK_SET); }
 
@@ -850,6 +857,8 @@ int main(int count, char **words)
         {"file-apart", ask_for_files},  {"file-same", ask_for_files},
         {"names", ask_for_names},
         {"exec-error", run_nothing},    {"exec-unlike", run_folder},
+        {"real-dup", copy_real},        {"real-refused", copy_real},
+        {"real-dup2", copy_real},
         {"seek-crashes", seek_back},    {"child", seek_back_in_child},
         {"access-refused", ask},        {"read-beyond", take_few},
         {"cloexec-thread", keep_flags_after_thread},

@@ -15,6 +15,9 @@
    setfl-async     F_SETFL sets O_ASYNC, too
    setfl-mode      F_GETFL tells another mode after F_SETFL
    dup2-zero       dup2 gives 0
+   real-dup        dup gives a number above the lowest that is free
+   real-refused    dup is EBADF
+   real-dup2       dup2 gives 0
    pipe-turned     pipe gives the writing end first
    never-back      a read never comes back
    stat-size       stat tells a byte more
@@ -440,7 +443,7 @@ int dup2(int fd, int to)
     sigfillset(&all);
     if (is_wrong("mask-dup2"))
         sigprocmask(SIG_BLOCK, &all, NULL);
-    return is_wrong("dup2-zero") ? 0 : (int)given_by("dup2", done);
+    return is_wrong("dup2-zero") || is_wrong("real-dup2") ? 0 : (int)given_by("dup2", done);
 }
 
 int close_range(unsigned first, unsigned last, int flags)
@@ -475,7 +478,12 @@ int pipe(int ends[2])
 
 int dup(int fd)
 {
-    return (int)syscall(SYS_fcntl, fd, is_wrong("cloexec-copied") ? F_DUPFD_CLOEXEC : F_DUPFD, 0);
+    int from = is_wrong("real-dup") ? 9 : 0;
+    if (is_wrong("real-refused"))
+        errno = EBADF;
+    if (is_wrong("real-refused"))
+        return -1;
+    return (int)syscall(SYS_fcntl, fd, is_wrong("cloexec-copied") ? F_DUPFD_CLOEXEC : F_DUPFD, from);
 }
 
 int open(const char *name, int flags, ...)

@@ -155,6 +155,7 @@ OTHERWISE: list[tuple[str, tuple[str, ...], str]] = [
     ("times", (f"{OTHER_WAY}{NUMBERS}",), NUMBERS),
     ("resolves", ("system: p0 write 3 x666f756e64 = 5",), "realpath of a, which went past fdref"),
     ("renames", ("system: p0 open a r = error ENOENT",), "renameat2 with flags of a, which went past fdref"),
+    ("raises", ("system: p0 dup2 3 99 = 99",), "setrlimit of RLIMIT_NOFILE, which went past fdref"),
     ("links", ("system: p0 open b rw,creat = 4",), "symlink of l, which went past fdref"),
     ("environment", (f"{OTHER_WAY}the environment",), "the environment, in which judge.py sets variables of its own"),
 ]
@@ -780,6 +781,9 @@ WRONGED = {
         word: f"{OF_SYSTEM}p0 fcntl: F_SETFL has set other flags than it was asked for, as F_GETFL tells"
         for word in ("setfl-lost", "setfl-more", "setfl-async", "setfl-mode")
     },
+    "real-dup": f"{OF_SYSTEM}p0 dup: has given another number than the lowest that is free",
+    "real-refused": f"{OF_SYSTEM}p0 dup: has failed with EBADF, and its descriptor is open",
+    "real-dup2": f"{OF_SYSTEM}p0 dup2: has given another number than it was asked for",
     "dup2-zero": "system: p0 dup2 4 9 = 0",
     "pipe-turned": "system: p0 pipe = 4 3",
     "never-back": "fdref:  8 p0 read 3 1 = x78",
