@@ -52,7 +52,7 @@
                         p0 ran 14` before.
 
      FDREF_SHARED=FILE  Natively what processes share is in this file, which may not be there yet: after the numbers of
-                        files and exits, of each process in which call it is that may wait.
+                        files and exits, of each process in which call it is.
 
    Without the first two nothing is changed, nor before a program has its environment, as in .preinit_array. Where there
    is no answer (no server, no place at it for one more process, a run that is full, a lost connection), and where a
@@ -790,6 +790,47 @@ static int are_moved(struct moving *it, struct fdref_act act, const struct iovec
     return it->going.way == ASK;
 }
 
+/* Whether what is put into one part is seen in another one. */
+static int do_overlap(const struct iovec *parts, int count)
+{
+    for (int at = 0; at < count; at++)
+        for (int other = 0; other < at; other++) {
+            uintptr_t one = (uintptr_t)parts[at].iov_base, two = (uintptr_t)parts[other].iov_base;
+            if (one < two + parts[other].iov_len && two < one + parts[at].iov_len)
+                return 1;
+        }
+    return 0;
+}
+
+/* The parts of a native transfer. Those of a read that overlap are read one after another into the bytes of this library,
+   so that it is logged what was read, where there is memory for that. */
+static const struct iovec *apart(struct moving *it, const struct iovec *parts, int count)
+{
+    struct iovec *own = NULL;
+    char *bytes = it->bytes;
+    if (it->going.way == NOTE && !is_write(it->going.act.kind) && do_overlap(parts, count))
+        own = (struct iovec *)calloc((size_t)count, sizeof *own);
+    for (int at = 0; own && at < count; bytes += parts[at++].iov_len) {
+        own[at].iov_base = bytes;
+        own[at].iov_len = parts[at].iov_len;
+    }
+    it->parts = own ? NULL : it->parts;
+    return own ? own : parts;
+}
+
+/* What was read so is put into the parts of the program, in their order. */
+static void put_together(struct moving *it, const struct iovec *parts, const struct iovec *own, int64_t given)
+{
+    int error = errno;
+    int64_t most = (int64_t)it->going.act.count;
+    if (own == parts)
+        return;
+    if (given > 0)
+        spread(parts, it->bytes, (size_t)(given < most ? given : most), 0);
+    free((void *)(uintptr_t)own);
+    errno = error;
+}
+
 static ssize_t freed(struct moving *it, int64_t done)
 {
     int error = errno;
@@ -804,14 +845,18 @@ static ssize_t freed(struct moving *it, int64_t done)
         NEXT_OF(name); \
         struct moving moving; \
         struct ending end; \
+        const struct iovec *own; \
         ssize_t given; \
         if (IS_INNER) \
             return next(fd, parts, count); \
         if (are_moved(&moving, act_of, parts, count)) \
             return freed(&moving, moving.going.done); \
-        end = ending_of(fd, parts, 0, is_write(moving.going.act.kind) ? moving.going.act.count : 0); \
-        NEXT_TILL_ENDED(given, next(fd, parts, count), &end); \
-        return freed(&moving, moved(&moving, given)); \
+        own = apart(&moving, parts, count); \
+        end = ending_of(fd, own, 0, is_write(moving.going.act.kind) ? moving.going.act.count : 0); \
+        NEXT_TILL_ENDED(given, next(fd, own, count), &end); \
+        given = moved(&moving, given); \
+        put_together(&moving, parts, own, given); \
+        return freed(&moving, given); \
     }
 
 MOVES_PARTS(readv, fdref_act_read(fd, 0))

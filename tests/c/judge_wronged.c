@@ -13,6 +13,7 @@
 #include <string.h>
 #include <sys/ioctl.h>
 #include <sys/stat.h>
+#include <sys/uio.h>
 #include <sys/wait.h>
 #include <unistd.h>
 
@@ -490,6 +491,15 @@ static void run_folder(void)
     execv("/", words);
 }
 
+/* Reads into parts that overlap, the later one over the first. */
+static void read_over(void)
+{
+    struct iovec parts[2] = {{bytes, 2}, {bytes + 1, 1}};
+    write(ends[1], "xyz", 3);
+    if (readv(ends[0], parts, 2) != 3 || memcmp(bytes, "xz", 2) != 0)
+        exit(1);
+}
+
 /* Copies a descriptor that was there from the start. */
 static void copy_real(void)
 {
@@ -858,7 +868,7 @@ int main(int count, char **words)
         {"names", ask_for_names},
         {"exec-error", run_nothing},    {"exec-unlike", run_folder},
         {"real-dup", copy_real},        {"real-refused", copy_real},
-        {"real-dup2", copy_real},
+        {"real-dup2", copy_real},       {"over", read_over},
         {"seek-crashes", seek_back},    {"child", seek_back_in_child},
         {"access-refused", ask},        {"read-beyond", take_few},
         {"cloexec-thread", keep_flags_after_thread},

@@ -585,6 +585,7 @@ def cases(bench: Bench) -> Iterator[Case]:
     for word, why in ENDS_KEPT.items():
         yield f"a child's end that the kernel keeps: {word}", partial(compares_ends, bench, word, why)
     yield "a child's end beside a handler that ends calls", partial(loses_beside_handlers, bench)
+    yield "a read into parts that overlap", partial(excuses_waits, bench, "over")
     for word in RIGHT_WAITS:
         yield f"waits that are right: {word}", partial(excuses_waits, bench, word)
     yield "a call that sets errno, and does not fail", partial(names_errno, bench)
