@@ -252,8 +252,6 @@ struct going {
 
 static int64_t gone(const struct going *it, int64_t given) { return it->way == NOTE ? noted(it->act, given) : given; }
 
-static int is_heard_elsewhere(void);
-
 /* Notes that the system has given a descriptor of its own another number than the lowest that was free. A handler may have
    closed one. */
 static void check_lowest(const struct going *it, int64_t given)
@@ -1362,8 +1360,8 @@ static int is_fifo_made(struct going *it, int folder, const char *name)
 
 static int has_all_alone(void);
 
-/* Asks the same system natively what it has made, where no other process can have changed that. */
-static void check_fifo(const char *what, const char *name, int given)
+/* Asks the same system natively what it has made, where no other process and no handler can have changed that. */
+static void check_fifo(const char *what, const char *name, int given, unsigned gone_before)
 {
     int (*next)(const char *, struct stat *), error = errno, done;
     void *found = given == 0 && has_all_alone() ? dlsym(RTLD_NEXT, "lstat") : NULL;
@@ -1372,7 +1370,8 @@ static void check_fifo(const char *what, const char *name, int given)
         return;
     memcpy(&next, &found, sizeof next);
     done = (int)let_in(BEHIND_OF("lstat", next(name, &made)));
-    if ((done == 0 && !S_ISFIFO(made.st_mode)) || (done == -1 && errno == ENOENT))
+    if (((done == 0 && !S_ISFIFO(made.st_mode)) || (done == -1 && errno == ENOENT)) && names_gone == gone_before
+        && !is_heard_elsewhere())
         note_wrong(what, "has made no FIFO, as lstat tells");
     errno = error;
 }
@@ -1382,6 +1381,7 @@ static void check_fifo(const char *what, const char *name, int given)
     { \
         NEXT_OF(function); \
         struct going going; \
+        unsigned gone_before = names_gone; \
         int given; \
         if (IS_INNER) \
             return next words; \
@@ -1392,7 +1392,7 @@ static void check_fifo(const char *what, const char *name, int given)
             return given; \
         } \
         given = (int)let_in(gone(&going, BEHIND(next words))); \
-        check_fifo(#function, going.act.name, given); \
+        check_fifo(#function, going.act.name, given, gone_before); \
         return given; \
     }
 MAKES_FIFO(mkfifo, (const char *name, mode_t mode), (name, mode), AT_FDCWD)

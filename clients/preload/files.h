@@ -122,8 +122,8 @@ static void check_file(const char *name, int fd, uint64_t device, uint64_t numbe
     told_files[fd] = now;
 }
 
-/* The same of a name, which no other process can lead elsewhere. */
-static void check_named(const char *name, const char *path, uint64_t device, uint64_t number)
+/* The same of a name, which no other process and no handler can have led elsewhere. */
+static void check_named(const char *name, const char *path, uint64_t device, uint64_t number, unsigned gone_before)
 {
     struct told_file now = {names_gone + 1, {device, number}, {0, 0}};
     struct stat kernel;
@@ -135,7 +135,7 @@ static void check_named(const char *name, const char *path, uint64_t device, uin
 #endif
     now.own.device = kernel.st_dev;
     now.own.number = kernel.st_ino;
-    if (S_ISREG(kernel.st_mode) || S_ISFIFO(kernel.st_mode)) {
+    if ((S_ISREG(kernel.st_mode) || S_ISFIFO(kernel.st_mode)) && names_gone == gone_before && !is_heard_elsewhere()) {
         compare_with_all(name, &now, 1);
         told_names[name_stamp++ % TOLD_NAMES] = now;
     }
@@ -147,6 +147,7 @@ static void check_named(const char *name, const char *path, uint64_t device, uin
     { \
         NEXT_OF(function); \
         struct file file; \
+        unsigned gone_before = names_gone; \
         int done; \
         if (IS_INNER) \
             return next words; \
@@ -156,7 +157,7 @@ static void check_named(const char *name, const char *path, uint64_t device, uin
         if (done > 0) \
             WITHIN(done, next words); \
         if (looked_at && done == 0) \
-            check_named(#function, looked_at, to->st_dev, to->st_ino); \
+            check_named(#function, looked_at, to->st_dev, to->st_ino, gone_before); \
         if (looked_at) \
             note_look(done, done < 0 ? 0 : to->st_mode, done < 0 ? 0 : (uint64_t)to->st_size, \
                       done < 0 ? 0 : (uint64_t)to->st_nlink); \

@@ -961,6 +961,9 @@ static __thread enum due due_now;
 /* Whether the descriptor of that call is one of the system alone, which is open. */
 static __thread int is_real_now;
 
+/* How many handlers that this library calls have run in this thread, and had as that was found. */
+static __thread unsigned runs, runs_then;
+
 static void lessen_due(enum due most) { due_now = due_now < most ? due_now : most; }
 
 /* The way of a call with a descriptor. In a native run the kernel knows best which are open. */
@@ -971,6 +974,7 @@ static enum way way_of(int fd)
     if (!is_behind)
         due_now = how == NATIVE && fd >= NUMBERS && !is_open_in_kernel(fd) ? EBADF_IS_DUE : ANY_IS_DUE;
     is_real_now &= is_behind;
+    runs_then = is_behind ? runs_then : runs;
     if (is_off() || is_behind || fd >= NUMBERS)
         return PASS;
     if (how == NATIVE && fd >= 0 && slots[fd].held != OURS)

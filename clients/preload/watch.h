@@ -166,9 +166,6 @@ static void check_number(const char *name, int64_t given, int has_line)
    No function may set it to 0, and one that fails has to set it. So a native call finds a number in it that no function
    gives, in place of what was there. One that does not fail may set it, which a program has not to look at. */
 
-/* How many handlers that this library calls have run in this thread. */
-static __thread unsigned runs;
-
 enum { NOT_SET = 1 << 20 };
 
 /* What errno was before a native call, how many handlers had run, and what is due of it. */
@@ -184,7 +181,11 @@ static __thread int errno_there;
 
 static struct erring begin_erring(int is_own)
 {
-    struct erring it = {is_watching() && is_own, errno, runs, due_now, is_real_now};
+    struct erring it = {is_watching() && is_own, errno, runs, ANY_IS_DUE, 0};
+    if (runs_then == runs) {
+        it.due = due_now;
+        it.is_real = is_real_now;
+    }
     if (is_own) {
         due_now = ANY_IS_DUE;
         is_real_now = 0;
@@ -204,6 +205,8 @@ static void note_given(const char *name, int given, int error)
     notes("given", name, text);
 }
 
+static int is_heard_elsewhere(void);
+
 /* Notes a native call that has not failed as it has to where nothing is open. Another thread may have opened one. */
 static void check_due(const struct erring *it, const char *name, int64_t given, int error)
 {
@@ -213,7 +216,7 @@ static void check_due(const struct erring *it, const char *name, int64_t given, 
     };
     static const char *const of_any[] = {"dup", "fstat", "fxstat", "close", NULL};
     int is_due = given == -1 && (error == EBADF || it->due == ERROR_IS_DUE);
-    if (it->is_real && given == -1 && error == EBADF && is_among(name, of_any) && is_alone())
+    if (it->is_real && given == -1 && error == EBADF && is_among(name, of_any) && is_alone() && !is_heard_elsewhere())
         note_wrong(name, "has failed with EBADF, and its descriptor is open");
     if (it->due == ANY_IS_DUE || is_due || !is_among(name, with_descriptor))
         return;
