@@ -903,7 +903,8 @@ static void leave_program(const char *what, const char *path, int is_of_environm
 {
     char text[60];
     snprintf(text, sizeof text, "%s%s", what, is_of_environment ? " in another environment" : "");
-    leave_out("program", text, path);
+    goes_past('!', "program", text, path);
+    end_strictly(what);
 }
 
 static int run(struct program program, char *const list[], char *const env[], int is_own)
