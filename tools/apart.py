@@ -470,7 +470,8 @@ class Excuses:
         for room in (limits, ROOMY) if may_be_larger(limits) else (limits,):
             for ordered in (self.history, begun):
                 found = list(differences(ordered, room, why))
-                if found and all(it.reason for it in found) and not wants_room(found, room):
+                is_all = bool(found) and all(it.reason for it in found) and not wants_room(found, room)
+                if is_all and (ordered is self.history or all(map(may_wait_on, found))):
                     return ordered, found
         return self.found_by_ends(ROOMY, why) if may_be_larger(limits) else (self.history, [])
 
@@ -529,6 +530,13 @@ def beside_choice(
     found = list(differences(placed, chosen.limits, why))
     is_all = all(it.reason and it.reason.who == OWN and it.noted in known.values() for it in found)
     return (chosen, placed, found) if found and is_all else None
+
+
+def may_wait_on(it: Apart) -> bool:
+    """Whether a call has a reason that holds to the end of the history, though it was looked at where it began: one
+    that waits does so for room alone, and has a reader."""
+    is_whole = it.noted.act.word == "write" and it.fdref == str(len(it.noted.act.fields[1]))
+    return it.noted.outcome != WAITS or (is_whole and is_of_room(it.reason))
 
 
 def may_wait_for_room(history: Iterable[Noted]) -> bool:

@@ -64,7 +64,7 @@ from pathlib import Path
 from typing import NamedTuple
 
 from support import pages, plain_model
-from support.both_ways import is_for_both, may_be_for_both, opens_for_both, without_fifos
+from support.both_ways import opens_for_both, opens_of, without_fifos
 from support.commands import ChosenLimits, add_capacity, add_program, program_of
 from support.histories import BadHistory, Noted, form, history_text, read_histories
 from support.ordering import (
@@ -230,7 +230,8 @@ class Orders:
     def for_both(self, history: Sequence[Noted]) -> Result | Chosen | None:
         """What is told of a history in which a FIFO is opened for both, if there is one: that this is a choice, where
         an order explains it in which it is done; else why none does, whatever such a FIFO gives, which is left open."""
-        if not may_be_for_both(history):
+        opens = opens_of(history)
+        if not opens:
             return None
         left = without_fifos(history)
         with opens_for_both():
@@ -240,13 +241,14 @@ class Orders:
         if result:
             return self.with_reason(result, NOT_FOR_BOTH)
         told, steps = found or ([], [])
-        first = next((at for at, step in enumerate(steps) if is_for_both(Noted(0, 0, *step))), None)
+        acts = [it.act for it in opens]
+        first = next((at for at, step in enumerate(steps) if step.act in acts and step.outcome.isdigit()), None)
         if first is None:
             return None
         before = [Noted(at, at, *step) for at, step in enumerate(steps[: first + 1]) if step.act.word != "resume"]
         apart.confirm(self.program, before, self.args.limits)
         where = "" if apart.is_one_by_one(history) else IN_ORDER
-        lines = [f"  {it.text()}\nfdref answers error EINVAL{where}" for it in history if is_for_both(it)]
+        lines = [f"  {it.text()}\nfdref answers error EINVAL{where}" for it in opens]
         told += [] if whole else [f"{NOT_COMPARED}, {several(len(history) - len(left), 'call')}"]
         return Chosen("\n".join([NO_ORDER_BY_CHOICE, *lines[:1], BY_BOTH, *told, ""]))
 

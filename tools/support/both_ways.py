@@ -4,10 +4,10 @@ The standard leaves it undefined, and fdref refuses it. Here such an open counts
 after it can be compared.
 """
 
-from collections.abc import Iterable, Iterator, Sequence
+from collections.abc import Iterator, Sequence
 from contextlib import contextmanager
 
-from support.footprints import Footprints
+from support.footprints import Footprints, Names
 from support.histories import Noted
 from support.ordering import Explained, explain
 from support.plain_model import DESCRIPTIONS_MAX, Description, Fifo, Limits, Pipe, Process, Reply, World
@@ -16,24 +16,19 @@ from support.plain_model import lowest_free, require
 ONE_WAY, ENDS_APART = World.open, World.has_end
 
 
-def is_for_both(noted: Noted) -> bool:
-    """Whether a call is an open for reading and writing that was not refused."""
-    is_asked = noted.act.word == "open" and noted.act.fields[1].split(",")[0] == "rw"
-    return is_asked and noted.outcome.isdigit()
-
-
-def may_be_for_both(history: Iterable[Noted]) -> bool:
-    """Whether a FIFO may be opened for both in a history."""
-    calls = list(history)
-    return any(it.act.word == "mkfifo" for it in calls) and any(map(is_for_both, calls))
+def opens_of(history: Sequence[Noted]) -> list[Noted]:
+    """The opens of a history for reading and writing of what may be a FIFO that were not refused."""
+    names = Names(history)
+    opens = [noted for noted in history if noted.act.word == "open" and noted.outcome.isdigit()]
+    both = [noted for noted in opens if noted.act.fields[1].split(",")[0] == "rw"]
+    return [noted for noted in both if names.first(noted.act.fields[0]) in names.fifos]
 
 
 def without_fifos(history: Sequence[Noted]) -> list[Noted]:
     """A history without the reads and writes of FIFOs that are opened for both, but for those before that."""
     footprints = Footprints(history)
     names = footprints.names
-    named = [(names.first(it.act.fields[0]), it) for it in history if is_for_both(it)]
-    opens = [(name, it) for name, it in named if name in names.fifos]
+    opens = [(names.first(it.act.fields[0]), it) for it in opens_of(history)]
     both = zip(history, footprints.touches, strict=True)
     moves = [(it, touch.at.file) for it, touch in both if touch.at and it.act.word in ("read", "write")]
     is_open = {id(it) for it, file in moves for name, one in opens if name == file and not it.precedes(one)}
@@ -75,7 +70,7 @@ def opens_for_both() -> Iterator[None]:
 def by_both_ways(history: Sequence[Noted], states_most: int, seconds: float, *limits: Limits) -> Explained | None:
     """An order of a history in which a FIFO is opened for both that explains it where that is done, but for what else
     such a FIFO gives, if there is one, in a run of the first of these limits that has one."""
-    if not may_be_for_both(history):
+    if not opens_of(history):
         return None
     with opens_for_both():
         results = (explain(without_fifos(history), states_most, seconds, 0, one) for one in limits)
