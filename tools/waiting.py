@@ -7,8 +7,8 @@ TRACE is a file that `fdref serve` has written, or is writing still: where a ser
 what its clients wait for. Of each process that is there a line says in what call it waits, since which record, and who
 has the other end of the pipe or FIFO; or that the call can go on, so that its resume is due; that it waits in no call;
 or that it was forked and has no connection. A line tells, too, of each process that ended in a call that could go on,
-since which record it could. Its wake is lost if others were recorded meanwhile, or if nothing but exits comes after a
-record that is none: an exit that wakes somebody may be one of those by which a run is only ended.
+since which record it could. Its wake is lost, or its turn had not come, if a call of others was recorded meanwhile: no
+page says how soon one goes on that can. Where there were but exits the run may only have been ended.
 But where the header has a number of records, as that of `fdref serve`, or version 1, a connection may have been lost in
 that moment, or the run had no record for the resume: that says nothing of a wake. --no-connections says that nobody
 who wrote TRACE has a connection that can be lost, as an emulator has none. Then it tells how many bytes of a
@@ -18,11 +18,11 @@ tell: one that does not waits in no call. Nor does a trace have the number of se
 nothing yet, which takes one of them: while a run goes on, a line says so.
 
 A call that can go on has lost its wake where a server that still writes TRACE, which it locks, has no resume of it for
-a third of a second. Of a trace that no server writes any more, as one that was killed, that is known only where no
+a third of a second, unless that server is stopped or held up. Of a trace that no server writes any more, as one that was killed, that is known only where no
 connection can have been lost, and others were recorded since; else the trace ends there, and that is told.
 
 Exit status: 0 where a process that has a connection waits in no call, or there is none; 1 where all of them wait, and
-the call of none can go on, or where a wake is lost, also of one that has ended; 2 for wrong words; 3 where TRACE cannot
+the call of none can go on, or where a wake is lost by these rules, also of one that has ended; 2 for wrong words; 3 where TRACE cannot
 be read, or is malformed or illegal.
 """
 
@@ -49,9 +49,10 @@ RESUME_SECONDS = 0.3
 # How much of a call is shown.
 CALL_SHOWN = 60
 
-# What is told of a call that could go on, and has no resume: that its wake is lost, or else what may be why, the last two
-# where a server may have written that.
-WAKE_LOST = ": its wake is lost"
+# What is told of a call that could go on, and has no resume: that its wake is lost, where a server writes the trace still
+# or others have been recorded since, or else what may be why, the last two where a server may have written that.
+WAKE_LOST = ": its wake is lost, or its turn had not come"
+HELD_UP = ": its wake is lost, or the server is stopped or held up"
 ONLY_ENDED = ": its wake is lost, or the run was only ended"
 ANY_LOST = ": its wake is lost, or its connection was"
 NO_ROOM = ", and no record was free for its resume"
@@ -60,6 +61,9 @@ BREAKS_OFF = ": the trace ends there"
 
 # What is told of a file that is no trace at all.
 NO_TRACE = "it does not begin with FDTRACE1 or FDTRACE2, as a trace does"
+
+# What is told where all wait, and a child that was forked has made no call yet.
+BEGINS = ", but one that was forked may begin"
 
 # What is told of a run that goes on.
 UNSEEN = "a connection that has sent nothing yet is not seen"
@@ -146,7 +150,7 @@ def why_unwoken(audit: Audit, is_served: bool, since: int, place: int, wanted: i
         return WAKE_LOST
     if not are_exits(words[place:]):
         return WAKE_LOST if place > since + 1 else ""
-    return ONLY_ENDED if are_exits(words[since : since + 1]) else WAKE_LOST
+    return ONLY_ENDED
 
 
 def are_exits(words: Sequence[str]) -> bool:
@@ -171,6 +175,7 @@ class Standing:
         self.connections = 0
         # whether a server writes the trace still, and whether one may have written it
         self.is_written = False
+        self.has_no_connections = has_no_connections
         self.is_served = bool(audit.records or self.world.limits == OLD_LIMITS) and not has_no_connections
         # the calls that can go on, and whose wakes are lost: those of these processes
         self.lost: set[int] = set()
@@ -223,31 +228,33 @@ class Standing:
         """What a process does."""
         who = f"p{process.number}"
         if not process.attached:
-            return f"{who} was forked and has no connection"
+            return f"{who} was forked and has {'made no call' if self.has_no_connections else 'no connection'}"
         if process.waits is None:
             return f"{who} waits in no call"
         place, shown = self.shown(process.number)
         moved = f", with {several(process.waits.moved, 'byte')} moved" if process.waits.moved else ""
-        late = WAKE_LOST if process.number in self.lost else "" if self.is_written else BREAKS_OFF
+        lost = HELD_UP if self.is_written else WAKE_LOST
+        late = lost if process.number in self.lost else "" if self.is_written else BREAKS_OFF
         reason = self.reason(process) if self.is_stuck(process) else f"and can go on{late}"
         return f"{who} waits in {shown} since record {place}{moved}, {reason}"
 
     def beside(self) -> list[str]:
         """What is left over of the trace, and what it does not tell."""
         rest = [f"{several(self.rest, 'byte')} left over after the last whole record"] if self.rest else []
-        return rest + ([] if self.world.is_closed else [UNSEEN])
+        return rest + ([] if self.world.is_closed or self.has_no_connections else [UNSEEN])
 
     def lines(self) -> list[str]:
         """A line for each process, what is beside them, and one for all."""
         processes = [process for _, process in sorted(self.world.processes.items())]
         attached = [process for process in processes if process.attached]
         waiting = sum(process.waits is not None for process in attached)
-        last = f"{several(len(processes), 'process', 'processes')}, {len(attached)} with a connection "
+        begun = "that have begun" if self.has_no_connections else "with a connection"
+        last = f"{several(len(processes), 'process', 'processes')}, {len(attached)} {begun} "
         last += f"({self.connections} so far), {waiting} of which wait"
-        if not attached and not self.world.is_closed:
+        if not attached and not self.world.is_closed and not self.has_no_connections:
             last += ": a server that goes on waits for connections"
         if self.all_wait():
-            last += ": none goes on by itself"
+            last += ": none goes on by itself" + (BEGINS if len(attached) < len(processes) else "")
         if self.lost:
             last += f": {several(len(self.lost), 'call')} can go on, and no resume came"
         never = sum(one.is_lost for one in self.unwoken)

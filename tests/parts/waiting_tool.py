@@ -35,13 +35,15 @@ LONG = "6162" * 515
 UNSEEN = "a connection that has sent nothing yet is not seen"
 NOBODY = ": a server that goes on waits for connections"
 STUCK = ": none goes on by itself"
+WAKE = "its wake is lost, or its turn had not come"
+HELD_UP = "its wake is lost, or the server is stopped or held up"
 LOST = ": 1 call can go on, and no resume came"
 NEVER = ": 1 call could go on, and no resume came before the exit"
 GONE = "0 processes, 0 with a connection (2 so far), 0 of which wait"
 PARKED = [*BOTH, "4 p1 close 1 = ok", "5 p1 read 0 5 = parked 0"]
 WRITTEN = [*PARKED, "6 p0 write 1 x616263 = 3"]
-LEFT = [*WRITTEN, "7 p0 exit = ok", "8 p1 exit = ok", "9 house close-run = ok"]
-ENDED = "p1 ended at record 8 in read 0 5 of record 5, which could go on since record 6"
+LEFT = [*WRITTEN, "7 p0 close 0 = ok", "8 p0 exit = ok", "9 p1 exit = ok", "10 house close-run = ok"]
+ENDED = "p1 ended at record 9 in read 0 5 of record 5, which could go on since record 6"
 # Records, what is told of them, and the exit status.
 BY_HAND: list[tuple[str, list[str], str, int]] = [
     ("nobody", [], f"0 processes, 0 with a connection (0 so far), 0 of which wait{NOBODY}", 0),
@@ -64,7 +66,7 @@ BY_HAND: list[tuple[str, list[str], str, int]] = [
         "all wait, and one can go on",
         [*BOTH, "4 p0 pipe = 2 3", "5 p1 read 0 1 = parked 0", "6 p0 write 1 x78 = 1", "7 p0 read 2 1 = parked 0"],
         "p0 waits in read 2 1 since record 7, where the writing end is open in itself\n"
-        "p1 waits in read 0 1 since record 5, and can go on: its wake is lost\n"
+        f"p1 waits in read 0 1 since record 5, and can go on: {WAKE}\n"
         f"2 processes, 2 with a connection (2 so far), 2 of which wait{LOST}",
         1,
     ),
@@ -107,7 +109,22 @@ BY_HAND: list[tuple[str, list[str], str, int]] = [
         "0 processes, 0 with a connection (1 so far), 0 of which wait",
         0,
     ),
-    ("an end in a call that could go on", LEFT, f"{ENDED}: its wake is lost\n{GONE}{NEVER}", 1),
+    ("an end in a call that could go on", LEFT, f"{ENDED}: {WAKE}\n{GONE}{NEVER}", 1),
+    (
+        "a run that is ended before a call that could go on has its turn",
+        [*WRITTEN, "7 p1 exit = ok", "8 p0 exit = ok", "9 house close-run = ok"],
+        "p1 ended at record 7 in read 0 5 of record 5, which could go on since record 6: "
+        f"its wake is lost, or the run was only ended\n{GONE}",
+        0,
+    ),
+    (
+        "a child that may begin",
+        [*PAIR, "3 p0 read 0 1 = parked 0"],
+        "p0 waits in read 0 1 since record 3, where the writing end is open in itself, p1\n"
+        "p1 was forked and has no connection\n"
+        f"2 processes, 1 with a connection (1 so far), 1 of which wait{STUCK}, but one that was forked may begin",
+        1,
+    ),
     (
         "an end after the exit of the last writer, and nothing else",
         [*PARKED, "6 p0 exit = ok", "7 p1 exit = ok", "8 house close-run = ok"],
@@ -119,7 +136,7 @@ BY_HAND: list[tuple[str, list[str], str, int]] = [
         "an end after the exit of the last writer and a call",
         [*PARKED, "6 p0 fork = 2", "7 p2 attach = ok", "8 p2 close 1 = ok", "9 p0 exit = ok", "10 p2 close 0 = ok"]
         + ["11 p1 exit = ok", "12 p2 exit = ok", "13 house close-run = ok"],
-        "p1 ended at record 11 in read 0 5 of record 5, which could go on since record 9: its wake is lost\n"
+        f"p1 ended at record 11 in read 0 5 of record 5, which could go on since record 9: {WAKE}\n"
         f"{GONE.replace('2 so', '3 so')}{NEVER}",
         1,
     ),
@@ -145,8 +162,8 @@ BY_HAND: list[tuple[str, list[str], str, int]] = [
 ]
 # What else is told where a server may have written the trace of such an end: a header, and what is told.
 SERVED = [
-    ("a number of records", header_bytes(11), ": its wake is lost, or its connection was"),
-    ("no record for a resume", header_bytes(10), ", and no record was free for its resume"),
+    ("a number of records", header_bytes(12), ": its wake is lost, or its connection was"),
+    ("no record for a resume", header_bytes(11), ", and no record was free for its resume"),
     ("version 1", OLD_MAGIC, ": its wake is lost, or its connection was"),
 ]
 
@@ -175,10 +192,14 @@ def served(header: bytes, why: str) -> None:
 
 def unserved() -> None:
     """Where nobody has a connection, the number of records in a header says nothing of one that was lost."""
-    wanted = f"{ENDED}: its wake is lost\n{GONE}{NEVER}\n"
-    same(Ran(1, wanted.encode(), b""), told(trace_of(LEFT, header_bytes(11)), "--no-connections"))
-    wanted = f"{ENDED}, and no record was free for its resume\n{GONE}\n"
-    same(Ran(0, wanted.encode(), b""), told(trace_of(LEFT, header_bytes(10)), "--no-connections"))
+    gone = GONE.replace("with a connection", "that have begun")
+    wanted = f"{ENDED}: {WAKE}\n{gone}{NEVER}\n"
+    same(Ran(1, wanted.encode(), b""), told(trace_of(LEFT, header_bytes(12)), "--no-connections"))
+    wanted = f"{ENDED}, and no record was free for its resume\n{gone}\n"
+    same(Ran(0, wanted.encode(), b""), told(trace_of(LEFT, header_bytes(11)), "--no-connections"))
+    wanted = "p0 waits in no call\np1 was forked and has made no call\n"
+    wanted += "2 processes, 1 that have begun (1 so far), 0 of which wait\n"
+    same(Ran(0, wanted.encode(), b""), told(trace_of(PAIR), "--no-connections"))
 
 
 def broken_off() -> None:
@@ -187,14 +208,14 @@ def broken_off() -> None:
     more = [*WRITTEN, "7 p0 close 0 = ok"]
     for records, is_locked, options, text in (
         (WRITTEN, False, [], "the trace ends there"),
-        (WRITTEN, True, [], "its wake is lost"),
+        (WRITTEN, True, [], HELD_UP),
         (more, False, [], "the trace ends there"),
-        (more, False, ["--no-connections"], "its wake is lost"),
+        (more, False, ["--no-connections"], WAKE),
         (WRITTEN, False, ["--no-connections"], "the trace ends there"),
     ):
         ran = told(trace_of(records, header_bytes(99)), *options, is_locked=is_locked)
         wanted = f"p1 waits in read 0 5 since record 5, and can go on: {text}"
-        same((text == "its wake is lost", wanted), (ran.status == 1, ran.stdout.decode().splitlines()[1]))
+        same((text in (HELD_UP, WAKE), wanted), (ran.status == 1, ran.stdout.decode().splitlines()[1]))
 
 
 def long_is_told() -> None:
@@ -303,7 +324,6 @@ def random_case(seed: str, number: int) -> None:
             since = ready[act.actor]
             meanwhile, later = acts[since + 1 : place], acts[place:]
             is_lost = is_lost or not are_exits(meanwhile) or (not are_exits(later) and bool(meanwhile))
-            is_lost = is_lost or (are_exits(later) and not are_exits(acts[since : since + 1]))
         judge.outcome_of(act)
         can = [it.number for it in judge.world.processes.values() if it.waits and it.waits.is_ready(judge.world)]
         ready = {number: ready.get(number, place) for number in can}
@@ -332,7 +352,7 @@ def seen(line: str) -> str:
     if " ended at record " in line:
         return f"{line.split(' ')[0]} ended"
     ends = {"was forked and has no connection": "alone", "waits in no call": "goes on"}
-    ends.update({f"and can go on: {why}": "ready" for why in ("its wake is lost", "the trace ends there")})
+    ends.update({f"and can go on: {why}": "ready" for why in (WAKE, HELD_UP, "the trace ends there")})
     return f"{line.split(' ')[0]} {next((what for end, what in ends.items() if line.endswith(end)), 'stuck')}"
 
 
