@@ -21,11 +21,12 @@
      FDREF_PAST=FILE    Each call that is left to the system or fails with ENOSYS, as far as it is seen, is appended to
                         FILE as a line: with the place of the last record of its process, the process, its kind, and
                         after a tab its name: `! 6 p0 path open<tab>d/x`, `! 6 p0 program system<tab>./a`, `! 6 p0
-                        thread read`. In `! 6 p0 call poll<tab>3` it is a descriptor of fdref. Where FDREF_STRICT would
-                        not tell it `-` stands for `!`: `- 6 p0 stream fopen<tab>/tmp/x`, and `- 6 p0 stdio 1`, as a
-                        file of fdref comes to be at descriptor 0, 1 or 2; it is `idle 0` until stdin has a buffer. `- 6
-                        p0 own closefrom` is a call that this
-                        library answers by itself in both runs. `- 6 p0 signal 11` is a child that a signal ended, as
+                        thread read`. In `! 6 p0 call poll<tab>3` it is a descriptor of fdref. `! 6 p0 program execve in
+                        another environment<tab>./a` is an exec that does not hand on LD_PRELOAD or FDREF_SOCKET as
+                        they are. Where FDREF_STRICT would not tell it `-` stands for `!`: `- 6 p0 stream
+                        fopen<tab>/tmp/x`, and `- 6 p0 stdio 1`, as a file of fdref comes to be at descriptor 0, 1 or 2;
+                        it is `idle 0` until stdin has a buffer. `- 6 p0 own closefrom` is a call that this library
+                        answers by itself in both runs. `- 6 p0 signal 11` is a child that a signal ended, as
                         wait, waitid or waitpid told, after a tab its number where that is known; `- 6 p0 vfork fork` a
                         vfork, and `- 6 p0 interrupt read` a signal in a call that waits, whose handler
                         restarts none. So are `- 6 p0 timer alarm` and `! 6 p0 limit RLIMIT_FSIZE`, as a program starts
