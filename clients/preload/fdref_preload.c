@@ -253,8 +253,8 @@ struct going {
 
 static int64_t gone(const struct going *it, int64_t given) { return it->way == NOTE ? noted(it->act, given) : given; }
 
-/* Notes that the system has given a descriptor of its own another number than the lowest that was free. A handler may have
-   closed one. */
+/* Notes that the system has given a descriptor of its own another number than the lowest that was free. A handler may
+   have closed one. */
 static void check_lowest(const struct going *it, int64_t given)
 {
     int at = 0, error = errno;
@@ -801,8 +801,8 @@ static int do_overlap(const struct iovec *parts, int count)
     return 0;
 }
 
-/* The parts of a native transfer. Those of a read that overlap are read one after another into the bytes of this library,
-   so that it is logged what was read, where there is memory for that. */
+/* The parts of a native transfer. Those of a read that overlap are read one after another into the bytes of this
+   library, so that it is logged what was read, where there is memory for that. */
 static const struct iovec *apart(struct moving *it, const struct iovec *parts, int count)
 {
     struct iovec *own = NULL;
