@@ -19,7 +19,7 @@ from support import pages, plain_model
 from support.auditing import Judge, act_of
 from support.call_logs import Log, Way, call_of, is_wait, word_of
 from support.histories import UNKNOWN, Noted
-from support.ordering import ROOMY
+from support.ordering import ROOMY, by_shares
 from support.plain_model import PIPE_BUF, TRANSFER_MAX, Limits
 from support.replaying import verified
 from support.runs import Line
@@ -44,6 +44,8 @@ OF_ONE_FILE = ("open", "read", "write", "pread", "pwrite", "lseek", "ftruncate",
 NAMES = {"open": 1, "mkfifo": 1, "unlink": 1, "link": 2, "rename": 2}
 # The name of a reason that larger pipes take away.
 ROOM = "room of a pipe"
+# What is told of an order in which reads of one pipe at once share its bytes.
+SHARED = "where reads of a pipe at once share its bytes (own; page of read)"
 
 
 AN_ORDER = "an order of these calls gives all answers of the system"
@@ -432,6 +434,24 @@ def search(builder: Builder, limits: Limits, program: list[str], seconds: float)
     return True
 
 
+def reads_at_once(builder: Builder) -> bool:
+    """Whether reads of two processes overlap, in a history without threads."""
+    reads = [] if builder.has_threads() else [it for lane in builder.lanes() for it in lane if it.act.word == "read"]
+    pairs = itertools.combinations(reads, 2)
+    return any(one.process != it.process and not one.precedes(it) and not it.precedes(one) for one, it in pairs)
+
+
+def search_shares(builder: Builder, limits: Limits, program: list[str], seconds: float) -> bool:
+    """Whether an order explains the history in which reads of one pipe that are made at once share its bytes. The
+    program has to give the same in that order."""
+    lanes = builder.lanes()
+    history = [noted for lane in lanes for noted in lane]
+    found = by_shares(history, most_states(lanes, seconds), seconds, limits)
+    if found:
+        verified(program, found.history, found.steps, found.limits)
+    return found is not None
+
+
 def by_processes(builder: Builder, limits: Limits, seconds: float) -> tuple[list[Step], list[Noted]] | None:
     """An order of the calls of processes, and the history."""
     lanes = builder.lanes()
@@ -503,6 +523,8 @@ def found_for(compared: Compared, program: list[str], given: Doubts, seconds: fl
     if size > compared.limits.capacity and has_less and search(roomy, ROOMY, program, seconds):
         room = f"where a pipe holds {ROOMY.capacity:,} bytes: {ROOM} (own; page of write)"
         return Ordered(True, f"{OTHERS if roomy.unknown else AN_ORDER}, {room}", not roomy.unknown, True)
+    if reads_at_once(builder) and search_shares(builder, compared.limits, program, seconds):
+        return Ordered(True, f"{OTHERS if builder.unknown else AN_ORDER}, {SHARED}", not builder.unknown)
     has_filled = can_have_filled(compared, size)
     doubts = {doubt: [more] if doubt else [], **doubts_of(compared, builder), ROOM: [""] if has_filled else []}
     for why, calls in doubts.items():

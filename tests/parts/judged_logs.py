@@ -713,6 +713,7 @@ LARGE, GOES_ON = "p1 write 1 61*600 = 600", "p1 setfl 1 w,nonblock = ok"
 BY_ROOM = f"{OPEN_ORDER}none was found, but {ROOM} may be why"
 NOT_BY_TIME = f"not judged: 12 answers differ with a reason: {OF_TIME}; {NOT_DECIDED}"
 IN_LARGER = f"{AN_ORDER}, where a pipe holds 65,536 bytes: {ROOM} (own; page of write)"
+IN_SHARES = f"{AN_ORDER}, where reads of a pipe at once share its bytes (own; page of read)"
 NOT_ROOMY = f"not judged: {IN_LARGER}; fdref's has 1,024 (--pipe-capacity 65536)"
 NO_OTHERS = NO_ORDER.replace("all answers", "all other answers")
 FULL_AT_ONCE = [*SIX_WRITES[:2], "p1 write 1 61*400 = parked 0"]
@@ -783,6 +784,18 @@ ORDERS = [
         f"agreement: {AN_ORDER}",
         0,
     ),
+    *[
+        Orders(
+            f"reads of a pipe at once that share its bytes, of which they give {what}",
+            TWO + f"p1 read 0 2 = x61; p2 read 0 9 = {rest}; p0 write 1 x61626364 = 4",
+            TWO_HERE + "6 p1 read 0 2 = parked 0; 7 p2 read 0 9 = parked 0; 8 p0 write 1 x61626364 = 4; "
+            "9 p1 resume = x6162; 10 p2 resume = x6364",
+            f"reason: {IN_SHARES}" if is_right else NO_ORDER,
+            f"agreement: {IN_SHARES}" if is_right else f"a difference: {NO_ORDER}",
+            0 if is_right else 1,
+        )
+        for what, rest, is_right in (("each", "x626364", True), ("one twice", "x616263", False))
+    ],
     Orders(
         "writes whose order is known by their lines",
         TWO + "p2 write 1 x6262 = 2; p2 close 0 = ok; p1 close 0 = ok; p1 write 1 x6161 = 2; p0 read 0 9 = x61616262",
