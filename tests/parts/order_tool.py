@@ -1251,6 +1251,29 @@ EMPTIED_WAITS = [
 ]
 
 
+# Writes that wait where no process has the reading end open at the end, so that no room excuses them: the last reader
+# has gone by an exit or a close, its pipe may be full, be a FIFO, or have another writer that is told. The nearest that
+# may wait: the reading end is open in a child of which nothing is known, by another descriptor or name, or perhaps.
+READERLESS = f"{LONE}20 - p0 write 1 61*600 = parked ?\n30 40 p1 exit = ok\n"
+FULL_FIFO = f"{JOINED_TWO}4 5 p0 mkfifo q = ok\n6 7 p0 open q r,nonblock = 0\n8 9 p1 open q w = 0\n"
+FULL_FIFO += "10 11 p1 write 0 61*4096 = 4096\n20 - p1 write 0 x61 = parked ?\n30 40 p0 close 0 = ok\n"
+NO_READER = [
+    READERLESS,
+    READERLESS.replace("61*600", "61*65500"),
+    READERLESS.replace("10 11 p1 close 1 = ok", "10 11 p0 write 1 61*4096 = 4096").replace("exit = ok", "dup2 1 0 = 0"),
+    f"{READERLESS.replace('exit', 'close 0')}50 51 p1 open f r,creat = 0\n",
+    READERLESS.replace("20 -", "12 13 p0 fork = 2\n14 15 p2 attach = ok\n21 45 p2 write 1 x62 = error EPIPE\n20 -"),
+    FULL_FIFO,
+]
+A_READER = [
+    READERLESS.replace("20 -", "12 13 p1 fork = 2\n20 -"),
+    READERLESS.replace("20 -", "12 13 p1 dup 0 = 1\n20 -").replace("exit", "close 0"),
+    READERLESS.replace("30 40 p1 exit = ok", "30 - p1 exit = ?"),
+    FULL_FIFO.replace("20 -", "12 13 p0 link q s = ok\n20 -") + "35 36 p2 join = 2\n37 45 p2 open s r,nonblock = 0\n",
+    f"{FULL_FIFO}50 - p0 open q r,nonblock = ?\n",
+]
+
+
 # A write that waits for a page, and after it another one that is not to wait and finds none either, as nonblock is set
 # meanwhile.
 SET_AFTER = f"{TWO}8 9 p0 write 1 61*65536 = 65536\n20 - p0 write 1 62*5000 = parked ?\n"
@@ -1265,6 +1288,10 @@ def lost_cases(program: str) -> Iterator[Case]:
         yield f"a write not woken: {text}", partial(fails, program, text, 1, woken)
     for text in MAY_WAIT:
         yield f"a write that may wait: {text}", partial(ends_with, program, text, 0, f"reason: {ROOM}")
+    for text in NO_READER:
+        yield f"a write without a reader: {text}", partial(fails, program, text, 1, woken)
+    for text in A_READER:
+        yield f"a write that may have a reader: {text}", partial(ends_with, program, text, 0, f"reason: {ROOM}")
     paged = "reason: room of a pipe that is counted in pages (own; page of write)"
     yield "a write beside a page", partial(fails, program, PAGE_LOST, 1, woken, "--pipe-capacity", "8192")
     yield "a write beside the end of one page", partial(ends_with, program, ONE_PAGE, 0, paged, *known)

@@ -29,6 +29,11 @@ class Opened(NamedTuple):
     flags: str
 
     @property
+    def mode(self) -> str:
+        """Whether it is open for reading, as r, for writing, as w, or for both, as rw."""
+        return self.flags.split(",")[0]
+
+    @property
     def offset(self) -> Thing:
         """Its offset."""
         return "offset", self.made_by
@@ -278,22 +283,26 @@ class Footprints:
         self.heeds_append = heeds_append
         self.names = Names(history)
         self.born: dict[int, Table] = {}
+        # the descriptors that each process has at the end
+        self.last: dict[int, Table] = {}
         self.touches: list[Touch] = [Touch() for _ in history]
         places: dict[int, list[int]] = {}
         for place, noted in enumerate(history):
             places.setdefault(noted.process, []).append(place)
         # a parent has a lower number than its child
         for process in sorted(places):
-            self.walk(places[process])
+            self.last[process] = self.walk(places[process])
+        self.last = self.born | self.last
 
-    def walk(self, places: Sequence[int]) -> None:
-        """Goes through the calls of a process in their order."""
+    def walk(self, places: Sequence[int]) -> Table:
+        """Goes through the calls of a process in their order: the descriptors that it has after them."""
         first = self.history[places[0]]
         table: Table = {} if first.act.word == "join" else self.born.get(first.process)
         for number, place in enumerate(places):
             noted = self.history[place]
             self.touches[place] = self.touch(noted, table)
             table = self.after(noted, table, number)
+        return table
 
     def touch(self, noted: Noted, table: Table) -> Touch:
         """What a call touches."""
@@ -327,6 +336,8 @@ class Footprints:
             return table
         if noted.end is None or outcome == UNKNOWN:
             return None
+        if act.word == "exit":
+            return {}
         fds = [int(word) for word in outcome.split(" ") if word.isdigit()]
         if act.word == "fork":
             self.born |= {child: table for child in fds}

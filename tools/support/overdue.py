@@ -1,4 +1,5 @@
-"""Writes that wait at the end of a history, though what was read tells that there is room for the rest of them.
+"""Writes that wait at the end of a history, though what was read tells that there is room for the rest of them, or no
+process has the other end of their pipe open; and reads of which that is so.
 
 How many bytes a pipe holds is left open, but each holds PIPE_BUF: where all that may be in it, and all that is left of
 a write, are no more than that together, that write is done. It is done, too, where each of its bytes was read, whatever
@@ -15,14 +16,21 @@ from collections.abc import Iterator, Sequence
 from typing import NamedTuple
 
 from support import plain_model
+from support.footprints import Footprints
 from support.histories import UNKNOWN, WAITS, Noted
 from support.plain_model import PIPE_BUF, Description, Pipe
 
+# The end of a pipe without which each call on it does not wait.
+OTHER_END = {"read": "w", "write": "r"}
+
 
 def is_overdue(history: Sequence[Noted], place: int, behind: Sequence[Description | None], page: int | None) -> bool:
-    """Whether a call of a history is a write to a pipe that waits at the end, and has to be done. It is known on which
-    description each read and write is made, and how many bytes a page has, where the pipe may have just one."""
+    """Whether a call of a history is a read or write of a pipe that waits at the end, and has to be done. It is known
+    on which description each read and write is made, and how many bytes a page has, where the pipe may have just
+    one."""
     noted, at = history[place], behind[place]
+    if is_without_other_end(history, place):
+        return True
     if noted.act.word != "write" or noted.outcome != WAITS or not at or not at.pipe or "w" not in at.mode:
         return False
     data: bytes = noted.act.fields[1]
@@ -36,6 +44,21 @@ def is_overdue(history: Sequence[Noted], place: int, behind: Sequence[Descriptio
         return True
     left = len(data) + sum(map(len, others)) - given.total()
     return left <= PIPE_BUF and (left <= 0 or page is None or not may_be_full(calls, page))
+
+
+def is_without_other_end(history: Sequence[Noted], place: int) -> bool:
+    """Whether a call of a history is a read or write of a pipe that waits at the end, where no process has the other
+    end open, in whatever order the calls took effect: each has what its own calls gave it, as far as that is known."""
+    noted = history[place]
+    end = OTHER_END.get(noted.act.word)
+    if end is None or noted.outcome != WAITS or not noted.act.fields[1]:
+        return False
+    footprints = Footprints(history)
+    at = footprints.touches[place].at
+    tables = footprints.last.values()
+    if at is None or not at.may_be_pipe or any(table is None for table in tables):
+        return False
+    return not any(it.file == at.file and end in it.mode for table in tables for it in (table or {}).values())
 
 
 def is_elsewhere(noted: Noted, at: Description | None) -> bool:
