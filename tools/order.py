@@ -29,6 +29,8 @@ its bytes by turns, any number at a time, and leave some of them: `how reads of 
 That excuses no byte that is lost, given twice, from nowhere or out of its order, no end of file and no EAGAIN, and no
 read that overlaps none of its pipe which gives bytes. For both, a read with the answer `?` is taken to have given bytes
 that no other read did.
+Nothing makes all closes of an exit one step: where no order explains them else, an exit that overlaps other calls may
+close its ends of pipes one by one, in any order: `an exit closes its descriptors one by one (own)`.
 
 A history has a reason, too, where each call that fdref answers otherwise has one of tools/compare.py that is its own
 choice: where calls overlap, each such call in an order that explains the others, also by a choice above, if none of
@@ -75,6 +77,7 @@ from support.ordering import (
     By,
     ByEarlyEnd,
     ByEpipe,
+    ByExits,
     ByParts,
     ByRoom,
     ByShares,
@@ -123,6 +126,9 @@ BY_TRANSFER = "reason: more than 65,536 bytes in a call (own; pages of read and 
 # What is told of a history that only reads explain which share the bytes of a pipe, and its reason.
 SHARED = "where reads of a pipe at once take its bytes by turns, each byte once and in order"
 BY_SHARES = "reason: how reads of a pipe at once share its bytes (own; page of read)"
+# What is told of a history that only exits explain which close their descriptors one by one, and its reason.
+CLOSED_APART = "where an exit closes its ends of pipes one by one, in any order, while it goes on"
+BY_EXITS = "reason: an exit closes its descriptors one by one (own; page of _exit)"
 # What is told of a history in which a FIFO is opened for reading and writing.
 NO_ORDER_BY_CHOICE = "no order explains it, by a choice of fdref's own"
 BY_BOTH = "reason: a FIFO opened for both (own; page of open)"
@@ -152,7 +158,7 @@ class Chosen(NamedTuple):
 
 
 Answer = Result | By | Chosen
-# What is told of the histories that only larger pipes, parts, or such writes and reads explain, and the reasons.
+# What is told of the histories that only larger pipes, parts, or such writes, reads and exits explain, and the reasons.
 TOLD: dict[type, tuple[str, str]] = {
     ByRoom: (WHERE_ROOMY, BY_ROOM),
     ByParts: (IN_PARTS, BY_PARTS),
@@ -161,6 +167,7 @@ TOLD: dict[type, tuple[str, str]] = {
     ByUnblocked: (UNBLOCKED, BY_UNBLOCKED),
     ByTransfer: (PAST_MOST, BY_TRANSFER),
     ByShares: (SHARED, BY_SHARES),
+    ByExits: (CLOSED_APART, BY_EXITS),
 }
 # The kinds of answers, in the order in which they are counted.
 KINDS = (Explained, Unexplained, GivenUp, *TOLD, Chosen)
@@ -173,6 +180,7 @@ COUNTED = (
     "nonblock set while a write waits",
     "more than 65,536 bytes",
     "reads that share",
+    "exits that close one by one",
     "other choices",
 )
 

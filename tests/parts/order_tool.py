@@ -1003,10 +1003,38 @@ NOT_HIDDEN_SHARES = [
 ]
 
 
+# Exits that hold the last ends of two pipes, and close one of them before the other; also of larger pipes, and where an
+# exit is not known to have come back. The nearest that are wrong: a closed end is open again, the exit is over, or has
+# not begun, an end is open in another process, and a byte is lost.
+TWO_ENDS = f"{PIPED}4 5 p0 pipe = 2 3\n6 7 p0 setfl 2 r,nonblock = ok\n8 9 p0 fork = 1\n10 11 p1 attach = ok\n"
+TWO_ENDS += "12 13 p0 close 0 = ok\n14 15 p0 close 3 = ok\n"
+READER_FIRST = f"{TWO_ENDS}20 50 p1 exit = ok\n25 30 p0 write 1 x61 = error EPIPE\n"
+READER_FIRST += "35 40 p0 read 2 1 = error EAGAIN\n52 53 p0 read 2 1 = x\n"
+WRITER_FIRST = f"{TWO_ENDS}20 50 p1 exit = ok\n25 30 p0 read 2 1 = x\n"
+WRITER_FIRST += "35 40 p0 write 1 x61 = 1\n52 53 p0 write 1 x61 = error EPIPE\n"
+BY_EXITS = "reason: an exit closes its descriptors one by one (own; page of _exit)"
+EXITS_APART = [
+    READER_FIRST,
+    WRITER_FIRST,
+    READER_FIRST.replace("20 50 p1 exit = ok", "20 - p1 exit = ?").partition("52 53")[0],
+    READER_FIRST.replace("20 50", "16 17 p1 dup 0 = 4\n20 50"),
+    WRITER_FIRST.replace("20 50", "16 17 p0 write 1 61*1100 = 1100\n20 50"),
+]
+NOT_EXITS_APART = [
+    READER_FIRST.replace("read 2 1 = error EAGAIN", "write 1 x61 = 1"),
+    READER_FIRST.replace("20 50", "20 24"),
+    READER_FIRST.replace("20 50", "41 50"),
+    READER_FIRST.replace("20 50", "16 17 p1 fork = 2\n20 50"),
+    WRITER_FIRST.replace("20 50", "16 17 p1 write 3 x62 = 1\n20 50"),
+    WRITER_FIRST.replace("52 53 p0 write 1 x61 = error EPIPE", "52 53 p0 write 1 x61 = 1"),
+]
+
+
 # The size of a pipe beside writes in parts, and beside reads that share; the nearest that are wrong in another answer.
 BESIDE = [
     (f"{TORN}45 46 p0 fstat 0 = pipe 0 1\n{TORN_READS}54 55 p2 read 0 600 = 61*113\n", BY_PARTS),
     (f"{FOUR}14 15 p0 fstat 1 = pipe 0 1\n{AT_TURNS[len(FOUR) :]}", BY_SHARES),
+    (READER_FIRST.replace("20 50", "16 17 p1 fstat 0 = pipe 0 1\n20 50"), BY_EXITS),
 ]
 NOT_BESIDE = [
     BESIDE[0][0].replace("54 55 p2 read 0 600 = 61*113", "54 55 p2 read 0 600 = 61*112\n56 - p2 read 0 1 = parked ?"),
@@ -1076,6 +1104,12 @@ def part_cases(program: str) -> Iterator[Case]:
         yield f"not two reasons: {text}", partial(fails, program, text, 1, "no order explains it")
     counted = "histories 2 explained 1 unexplained 0 given up 0 reads that share 1"
     yield "reads that share, counted", partial(ends_with, program, f"{AT_TURNS}\n{GOOD}", 0, counted)
+    for text in EXITS_APART:
+        yield f"an exit by closes: {text}", partial(ends_with, program, text, 0, BY_EXITS)
+    for text in NOT_EXITS_APART:
+        yield f"an exit by no closes: {text}", partial(fails, program, text, 1, "no order explains it")
+    counted = "histories 2 explained 1 unexplained 0 given up 0 exits that close one by one 1"
+    yield "an exit by closes, counted", partial(ends_with, program, f"{WRITER_FIRST}\n{GOOD}", 0, counted)
     yield "torn, and out of room", partial(ends_with, program, TORN_SMALL, 1, NOT_BY_ROOM)
     counted = "histories 2 explained 1 unexplained 0 given up 0 writes in parts 1"
     yield "in parts, counted", partial(ends_with, program, f"{IN_PARTS[1][0]}\n{GOOD}", 0, counted)

@@ -11,6 +11,7 @@ import time
 from collections.abc import Sequence
 from typing import NamedTuple
 
+from support.exits import Exiting, exits_at_once, with_closes
 from support.footprints import Footprints
 from support.guesses import with_guesses
 from support.histories import UNKNOWN, WAITS, Noted
@@ -105,6 +106,15 @@ class ByShares(NamedTuple):
     limits: Limits
 
 
+class ByExits(NamedTuple):
+    """A history that an order explains only where an exit closes its descriptors one by one: the history in which each
+    that it closes by itself is closed by a call before it, the steps of that order, and the limits of its run."""
+
+    history: list[Noted]
+    steps: list[Step]
+    limits: Limits
+
+
 class Unexplained(NamedTuple):
     """A history that no order explains: a small part of it that none explains either, the call that makes it impossible
     with those that overlap it, and the page of the standard that it is about."""
@@ -121,7 +131,7 @@ class GivenUp(NamedTuple):
 
 
 Result = Explained | Unexplained | GivenUp
-By = ByRoom | ByParts | ByEpipe | ByEarlyEnd | ByUnblocked | ByTransfer | ByShares
+By = ByRoom | ByParts | ByEpipe | ByEarlyEnd | ByUnblocked | ByTransfer | ByShares | ByExits
 
 
 def explain(
@@ -262,6 +272,23 @@ def by_shares(
     return None
 
 
+def by_exits(
+    history: Sequence[Noted], states_most: int = STATES_MOST, seconds: float = SECONDS, *limits: Limits
+) -> ByExits | None:
+    """An order of a history that explains it where exits close their descriptors one by one, if there is one, in a run
+    of the first of these limits that has one; large writes go in at once, or by parts."""
+    told = sorted(history, key=lambda noted: noted.start)
+    if not exits_at_once(told):
+        return None
+    for ordered in filter(None, (told, in_parts(told))):
+        for one in limits:
+            with contextlib.suppress(TooLong):
+                steps = Exiting(ordered, one, states_most, seconds).order()
+                if steps is not None and are_of_pipes(told, steps, one):
+                    return ByExits(with_closes(ordered, steps), steps, one)
+    return None
+
+
 def by_choice(
     history: Sequence[Noted], states_most: int, seconds: float, limits: Limits, has_room: bool, are_at_once: bool
 ) -> By | None:
@@ -275,6 +302,7 @@ def by_choice(
         return found
     others = by_early_end(history, *most, *rooms) or by_unblocked(history, *most, *rooms)
     others = others or by_transfer(history, *most, *rooms) or by_shares(history, *most, *rooms)
+    others = others or by_exits(history, *most, *rooms)
     guessed = None if others else with_guesses(sorted(history, key=lambda noted: noted.start))
     return (by_parts(guessed, *most, *rooms) or by_shares(guessed, *most, *rooms)) if guessed else others
 
