@@ -24,13 +24,15 @@ has gone. Where calls overlap, and no order explains them else, such a write is 
 and one of the rest, which is EPIPE: `how much a write has moved that ends early (own)`. Where nonblock is set while it
 waits, it may end with what it has moved: `nonblock set while a write waits (own)`. A call on a pipe of more than 65,536
 bytes, which fdref does not take, is one or two of fewer then: `more than 65,536 bytes in a call (own)`.
-Left open, last, is what reads of one pipe get that are made at once. Where no order explains them else, they may take
+Left open, too, is what reads of one pipe get that are made at once. Where no order explains them else, they may take
 its bytes by turns, any number at a time, and leave some of them: `how reads of a pipe at once share its bytes (own)`.
 That excuses no byte that is lost, given twice, from nowhere or out of its order, no end of file and no EAGAIN, and no
 read that overlaps none of its pipe which gives bytes. For both, a read with the answer `?` is taken to have given bytes
 that no other read did.
 Nothing makes all closes of an exit one step: where no order explains them else, an exit that overlaps other calls may
 close its ends of pipes one by one, in any order: `an exit closes its descriptors one by one (own)`.
+And no page keeps a part of a write of at most 512 bytes from a reader: it may go in by parts then, with no bytes of
+another write between them: `a small write goes in by parts (own)`.
 
 A history has a reason, too, where each call that fdref answers otherwise has one of tools/compare.py that is its own
 choice: where calls overlap, each such call in an order that explains the others, also by a choice above, if none of
@@ -51,7 +53,7 @@ calls that overlap a reason is told as `perhaps` where not each that is answered
 in the order in which they came back. Histories that differ in their times alone are searched once.
 
 A search is given up after --seconds or --states, and a history where its first search is. Where that finds no order
-there are up to 64 more, as with larger pipes and with parts of writes, and twice as many where a FIFO is opened for
+there are up to 80 more, as with larger pipes and with parts of writes, and twice as many where a FIFO is opened for
 both; and twice 20 seconds to make a part short.
 
 After several histories the last line counts them. Exit status: 0 where all are explained, or have a reason that is
@@ -81,6 +83,7 @@ from support.ordering import (
     ByParts,
     ByRoom,
     ByShares,
+    BySmallParts,
     ByTransfer,
     ByUnblocked,
     Explained,
@@ -129,6 +132,9 @@ BY_SHARES = "reason: how reads of a pipe at once share its bytes (own; page of r
 # What is told of a history that only exits explain which close their descriptors one by one, and its reason.
 CLOSED_APART = "where an exit closes its ends of pipes one by one, in any order, while it goes on"
 BY_EXITS = "reason: an exit closes its descriptors one by one (own; page of _exit)"
+# What is told of a history that only small writes explain that go in by parts, and its reason.
+IN_SMALL_PARTS = "where writes of at most 512 bytes go in by parts, too, with no bytes of others between these"
+BY_SMALL_PARTS = "reason: a small write goes in by parts (own; page of write)"
 # What is told of a history in which a FIFO is opened for reading and writing.
 NO_ORDER_BY_CHOICE = "no order explains it, by a choice of fdref's own"
 BY_BOTH = "reason: a FIFO opened for both (own; page of open)"
@@ -168,6 +174,7 @@ TOLD: dict[type, tuple[str, str]] = {
     ByTransfer: (PAST_MOST, BY_TRANSFER),
     ByShares: (SHARED, BY_SHARES),
     ByExits: (CLOSED_APART, BY_EXITS),
+    BySmallParts: (IN_SMALL_PARTS, BY_SMALL_PARTS),
 }
 # The kinds of answers, in the order in which they are counted.
 KINDS = (Explained, Unexplained, GivenUp, *TOLD, Chosen)
@@ -181,6 +188,7 @@ COUNTED = (
     "more than 65,536 bytes",
     "reads that share",
     "exits that close one by one",
+    "small writes in parts",
     "other choices",
 )
 

@@ -1030,6 +1030,36 @@ NOT_EXITS_APART = [
 ]
 
 
+# Small writes of which a part is read while they go on: where the rest is not there yet, where others come after them
+# or put no bytes between, where an answer is not known, in a larger pipe, and where the rest waits for room. The
+# nearest that are wrong: bytes of a small write or a large one stand between the parts, fewer are told, a byte is lost,
+# the write is over or has not begun, and a file.
+SEEN = f"{TWO}20 50 p0 write 1 61*400 = 400\n22 24 p1 read 0 400 = 61*200\n30 60 p1 read 0 400 = 61*200\n"
+OF_TWO = f"{THREE}20 50 p0 write 1 61*400 = 400\n20 60 p1 write 1 62*100 = 100\n22 24 p2 read 0 400 = 61*200\n"
+AFTER_SEEN = f"{OF_TWO}62 63 p2 read 0 400 = x{'61' * 200}{'62' * 100}\n"
+BY_SMALL_PARTS = "reason: a small write goes in by parts (own; page of write)"
+IN_SMALL_PARTS = [
+    SEEN,
+    f"{TWO}12 13 p1 setfl 0 r,nonblock = ok\n{SEEN[len(TWO) :]}".replace("30", "25 26 p1 read 0 1 = error EAGAIN\n30"),
+    AFTER_SEEN,
+    SEEN.replace("= 61*200", "= ?", 1).replace("= 61*200", "= 61*300"),
+    SEEN.replace("20 50", "14 15 p0 write 1 61*1500 = 1500\n16 17 p1 read 0 1500 = 61*1500\n20 50"),
+    f"{THREE}12 13 p0 setfl 0 r,nonblock = ok\n20 50 p0 write 1 61*400 = 400\n22 24 p2 read 0 400 = 61*200\n"
+    "26 27 p1 write 0 x62 = error EBADF\n28 29 p2 read 0 1 = error EAGAIN\n62 63 p2 read 0 400 = 61*200\n",
+]
+FULL_SEEN = f"{THREE}12 13 p0 write 1 63*1000 = 1000\n20 50 p0 write 1 61*400 = 400\n21 60 p1 write 1 62*400 = 400\n"
+FULL_SEEN += f"30 31 p2 read 0 1024 = x{'63' * 1000}{'61' * 24}\n"
+NOT_IN_SMALL_PARTS = [
+    f"{OF_TWO}62 63 p2 read 0 100 = 62*100\n64 65 p2 read 0 400 = 61*200\n",
+    f"{OF_TWO.replace('62*100 = 100', '62*600 = 600')}62 63 p2 read 0 600 = 62*600\n64 65 p2 read 0 400 = 61*200\n",
+    SEEN.replace("61*400 = 400", "61*400 = 200").replace("30 60", "55 60"),
+    SEEN.replace("30 60 p1 read 0 400 = 61*200", "30 60 p1 read 0 400 = 61*199\n62 - p1 read 0 1 = parked ?"),
+    SEEN.replace("20 50", "20 21"),
+    SEEN.replace("20 50", "25 50"),
+    SEEN.replace(PIPED, f"{JOINED}2 3 p0 open a rw,creat = 0\n3 3 p0 dup 0 = 1\n"),
+]
+
+
 # The size of a pipe beside writes in parts, and beside reads that share; the nearest that are wrong in another answer.
 BESIDE = [
     (f"{TORN}45 46 p0 fstat 0 = pipe 0 1\n{TORN_READS}54 55 p2 read 0 600 = 61*113\n", BY_PARTS),
@@ -1110,6 +1140,13 @@ def part_cases(program: str) -> Iterator[Case]:
         yield f"an exit by no closes: {text}", partial(fails, program, text, 1, "no order explains it")
     counted = "histories 2 explained 1 unexplained 0 given up 0 exits that close one by one 1"
     yield "an exit by closes, counted", partial(ends_with, program, f"{WRITER_FIRST}\n{GOOD}", 0, counted)
+    for text in IN_SMALL_PARTS:
+        yield f"in small parts: {text}", partial(ends_with, program, text, 0, BY_SMALL_PARTS)
+    yield "small parts as room comes", partial(ends_with, program, FULL_SEEN, 0, BY_SMALL_PARTS, *known)
+    for text in NOT_IN_SMALL_PARTS:
+        yield f"in no small parts: {text}", partial(fails, program, text, 1, "no order explains it")
+    counted = "histories 2 explained 1 unexplained 0 given up 0 small writes in parts 1"
+    yield "in small parts, counted", partial(ends_with, program, f"{SEEN}\n{GOOD}", 0, counted)
     yield "torn, and out of room", partial(ends_with, program, TORN_SMALL, 1, NOT_BY_ROOM)
     counted = "histories 2 explained 1 unexplained 0 given up 0 writes in parts 1"
     yield "in parts, counted", partial(ends_with, program, f"{IN_PARTS[1][0]}\n{GOOD}", 0, counted)

@@ -30,7 +30,8 @@ ATOMIC = "XSH 2.9.7: calls on regular files are atomic to each other; page of "
 REPLACED = "page of rename: a name that is replaced is never missing"
 NUMBERED = "docs/PROFILE.md: processes are numbered 0, 1, 2 .. in the order of joins and forks (own)"
 SMALL = "page of write: at most PIPE_BUF bytes are not interleaved; page of read"
-IN_PART = "page of write: at most PIPE_BUF bytes go in at once, and a part of them was seen; page of read"
+IN_PART = "page of write: that a part of at most PIPE_BUF bytes is seen is open (own), and does not explain all"
+IN_PART += "; page of read"
 
 
 class Told(NamedTuple):

@@ -115,6 +115,15 @@ class ByExits(NamedTuple):
     limits: Limits
 
 
+class BySmallParts(NamedTuple):
+    """A history that an order explains only where writes of at most PIPE_BUF bytes to a pipe go in by parts, between
+    which no bytes of others stand: the history of these parts, the steps of that order, and the limits of its run."""
+
+    history: list[Noted]
+    steps: list[Step]
+    limits: Limits
+
+
 class Unexplained(NamedTuple):
     """A history that no order explains: a small part of it that none explains either, the call that makes it impossible
     with those that overlap it, and the page of the standard that it is about."""
@@ -131,7 +140,7 @@ class GivenUp(NamedTuple):
 
 
 Result = Explained | Unexplained | GivenUp
-By = ByRoom | ByParts | ByEpipe | ByEarlyEnd | ByUnblocked | ByTransfer | ByShares | ByExits
+By = ByRoom | ByParts | ByEpipe | ByEarlyEnd | ByUnblocked | ByTransfer | ByShares | ByExits | BySmallParts
 
 
 def explain(
@@ -289,6 +298,24 @@ def by_exits(
     return None
 
 
+def by_small_parts(
+    history: Sequence[Noted], states_most: int = STATES_MOST, seconds: float = SECONDS, *limits: Limits
+) -> BySmallParts | None:
+    """An order of a history that explains it where writes of any size to a pipe go in by parts, and no bytes of others
+    stand between those of small ones, if there is one, in a run of the first of these limits that has one."""
+    told = sorted(history, key=lambda noted: noted.start)
+    parted = in_parts(told, 1) or []
+    rests = rests_in(told, parted) if parted else []
+    for one in limits if rests else ():
+        with contextlib.suppress(TooLong):
+            search = Search(parted, one, states_most, seconds)
+            search.keep_together(rests)
+            steps = search.order()
+            if steps is not None and are_of_pipes(told, steps, one):
+                return BySmallParts(parted, steps, one)
+    return None
+
+
 def by_choice(
     history: Sequence[Noted], states_most: int, seconds: float, limits: Limits, has_room: bool, are_at_once: bool
 ) -> By | None:
@@ -302,9 +329,10 @@ def by_choice(
         return found
     others = by_early_end(history, *most, *rooms) or by_unblocked(history, *most, *rooms)
     others = others or by_transfer(history, *most, *rooms) or by_shares(history, *most, *rooms)
-    others = others or by_exits(history, *most, *rooms)
+    others = others or by_exits(history, *most, *rooms) or by_small_parts(history, *most, *rooms)
     guessed = None if others else with_guesses(sorted(history, key=lambda noted: noted.start))
-    return (by_parts(guessed, *most, *rooms) or by_shares(guessed, *most, *rooms)) if guessed else others
+    ways = (by_parts, by_shares, by_small_parts) if guessed else ()
+    return next(filter(None, (way(guessed or [], *most, *rooms) for way in ways)), others)
 
 
 def without_epipe(noted: Noted) -> Noted:
@@ -380,7 +408,7 @@ ATOMIC = """
 NO_CALL = "docs/PROFILE.md: the other acts (own)"
 PAGES = {"getfl": "page of fcntl", "setfl": "page of fcntl", "join": NO_CALL, "attach": NO_CALL}
 # What may be wrong with writes of at most PIPE_BUF bytes.
-SEEN_IN_PART = "page of write: at most PIPE_BUF bytes go in at once, and a part of them was seen"
+SEEN_IN_PART = "page of write: that a part of at most PIPE_BUF bytes is seen is open (own), and does not explain all"
 INTERLEAVED = "page of write: at most PIPE_BUF bytes are not interleaved"
 REPLACED = "page of rename: a name that is replaced is never missing"
 WAITS_AT_FILE = "on a regular file no call waits"

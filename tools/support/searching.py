@@ -165,14 +165,18 @@ class Search:
             call.may_break = any(call.noted is noted for noted in writes)
 
     def keep_together(self, rests: Sequence[Noted]) -> None:
-        """Lets no other write to the same file come between one of these and the call of its process before it."""
+        """Lets no bytes of another write to the same file come between one of these and the call of its process before
+        it."""
         known = {id(noted) for noted in rests}
         self.has_rests = bool(known)
         for call in (call for calls in self.calls for call in calls):
             call.is_rest = id(call.noted) in known
 
-    def is_between(self, place: Place, call: Call) -> bool:
-        """Whether a call would come between a write and its rest."""
+    def is_between(self, place: Place, call: Call, outcome: str | None) -> bool:
+        """Whether the bytes of a call, which comes to this, would come between those of a write and its rest."""
+        has_none = outcome is None or outcome in ("0", "parked 0") or outcome.startswith("error ")
+        if not self.has_rests or call.act.word != "write" or has_none:
+            return False
         waiting = self.states.waiting[place.state]
         for process, calls, begun in zip(self.processes, self.calls, place.begun, strict=True):
             number = begun - (process in waiting)
@@ -244,9 +248,9 @@ class Search:
 
     def resumed(self, place: Place, call: Call) -> Iterator[tuple[Step, Place]]:
         """The next try of a call that waits."""
-        if self.has_rests and call.act.word == "write" and self.is_between(place, call):
-            return
         outcome, state = self.states.after(place.state, call.resume)
+        if self.is_between(place, call, outcome):
+            return
         if outcome is not None and (outcome.startswith("part ") or call.can_end(outcome)):
             after = place._replace(state=state)
             if self.is_foretold(call, after):
@@ -254,9 +258,9 @@ class Search:
 
     def begun(self, place: Place, at: int, call: Call) -> Iterator[tuple[Step, Place]]:
         """A call that takes effect, or begins to wait."""
-        if self.has_rests and call.act.word == "write" and self.is_between(place, call):
-            return
         outcome, state = self.states.after(place.state, call.act)
+        if self.is_between(place, call, outcome):
+            return
         if outcome is not None and (outcome.startswith("parked ") or call.can_give(outcome)):
             begun = (*place.begun[:at], place.begun[at] + 1, *place.begun[at + 1 :])
             after = Place(begun, place.bits | call.bit, state, place.taken)
