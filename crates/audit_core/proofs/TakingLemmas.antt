@@ -2,15 +2,14 @@
 use Rattle.std.proofs.Common.{◌≡◌, ◌∙◌, false, is_some, ℕ, ◌+◌, ◌^◌, ◌<◌, ◌≤◌, inl, List, [], ◌++◌, Option, None, Some, length, drop, refl, sym, ap, subst, arith, length-append, length-drop}
 use Rattle.std.proofs.lemmas.List.{drop-append-le}
 use Rattle.frame_codec.specs.Decoding.{told_place}
-use Rattle.frame_codec.specs.Proved.Headers.{GoesOn, HeaderGoesOn, HeadersTell, TellsLimits}
+use Rattle.frame_codec.specs.Proved.Headers.{GoesOn, HeaderGoesOn}
 use Rattle.frame_codec.specs.Trace.{header}
 use Rattle.frame_codec.specs.declared.trace.Header.{Header}
 use Rattle.frame_codec.specs.declared.trace.Header.TheVariants.{Headed}
 use Rattle.frame_codec.specs.declared.trace.ToldLimits.{ToldLimits}
 use Rattle.audit_core.specs.TraceState.{BodyState, IsJudging, IsTaking}
-use Rattle.audit_core.specs.Proved.Taking.{fresh_body, fresh_trace, IsFound, BodyGoesOn, TakesBody, TakesAfter}
+use Rattle.audit_core.specs.Proved.Taking.{fresh_body, IsFound, BodyGoesOn, TakesBody, TakesAfter}
 use Rattle.audit_core.specs.Verdict.{EndsBy, EndsWith, IsFinding, IsLegal, IsVerdictAfter, IsVerdictBy}
-use Rattle.audit_core.specs.declared.verdict.Ending.TheVariants.{Open}
 use Rattle.audit_core.specs.declared.verdict.Verdict.{Verdict}
 use Rattle.audit_core.specs.declared.verdict.Verdict.TheVariants.{Legal, Illegal, Malformed}
 use Rattle.audit_core.proofs.JudgeLemmas.{none_judged}
@@ -82,10 +81,6 @@ header_ends on input piece front rest told headed new found is after takes few =
     let all : drop new.headed (input ++ piece) ≡ rest = ap (λ (n : ℕ). drop n (input ++ piece)) takes.headed ∙ sym after in
     found_after (input ++ piece) rest told front new found whole all few (takes.goes told [] (none_judging told headed) short)
 
--- what a header tells lets files be no longer than an offset can tell
-pub small_told : HeadersTell → (bytes : List ℕ) (told : ToldLimits) (headed : ℕ) → header bytes ≡ Headed told headed → TellsLimits (Headed told headed)
-small_told tells bytes told headed is = subst (λ (h : Header). TellsLimits h) is (tells bytes)
-
 -- ---- the end
 
 abbrev ends_legal : (told : ToldLimits) (body : List ℕ) (b : BodyState) → IsJudging told body b → length body < 2 ^ 64 →
@@ -117,15 +112,3 @@ ends_after input front b t =
       verdict = subst (λ (h : Header). IsVerdictBy h input (Legal b.judge.place (length b.decoder.held))) (sym t.by.1) legal;
       ending = subst (λ (h : Header). EndsBy h input b.judge.place (length b.decoder.held) b.judge.ending) (sym t.by.1) ends;
     }
-
-pub ends_within : (input front : List ℕ) → IsTaking input (record { front = front; body = None }) →
-    IsFinding input (record { verdict = Legal 0 (length front); ending = Open })
-ends_within input front t = record {
-  verdict = subst (λ (h : Header). IsVerdictBy h input (Legal 0 (length front))) (sym t.by.0) (ap (λ (x : List ℕ). Legal 0 (length x)) t.by.1);
-  ending = subst (λ (h : Header). EndsBy h input 0 (length front) Open) (sym t.by.0) refl;
-}
-
--- ---- the beginning
-
-pub none_taken : IsTaking [] fresh_trace
-none_taken = record { by = (refl, refl); few = omega arith }

@@ -14,7 +14,7 @@ use Rattle.script_text.specs.declared.fault.Expected.{Expected}
 use Rattle.script_text.specs.declared.script.TheConstants.{SCRIPT_MAX}
 use Rattle.text_forms.specs.Scripts.{hash, plain_script}
 use Rattle.script_text.specs.ReadingCalls.{reading}
-use Rattle.script_text.specs.ReadingResults.{IsReadAs as IsLineOf, ScriptFails, NextGives}
+use Rattle.script_text.specs.ReadingResults.{IsReadAs as IsLineOf}
 use Rattle.script_text.specs.declared.fault.ScriptFault.{ScriptFault}
 use Rattle.record_book.specs.Book.{new_book}
 use Rattle.byte_ledger.specs.declared.tallies.Sums.{Sums}
@@ -76,19 +76,6 @@ runs_one_more read rest last first run new before lines more act so_far is_next 
   lines_are = next.lines_are ∙ ap (λ l. l ++ told_line next.told) so_far.lines_are ∙ append_assoc before (told_lines so_far.told) (told_line next.told) ∙
       ap (λ l. before ++ l) (sym (lines_next so_far.told next.told));
 }
-
--- a fault of the rest is one of all
-pub fails_so_far : (read rest : Result (List ScriptAct) ScriptFault) (first run : RunState) (before lines : List ℕ) (fault : ScriptFault)
-    → RunsOn read rest first run before lines → ScriptFails fault rest → ScriptFails fault read
-fails_so_far read rest first run before lines faults.NoMemory so_far fails = tt
-fails_so_far read rest first run before lines (faults.BadLine line column expected) so_far fails = so_far.is_read ∙ ap (followed so_far.acts) fails
-fails_so_far read rest first run before lines faults.TooLong so_far fails = so_far.is_read ∙ ap (followed so_far.acts) fails
-
--- no act was read, so none is left
-pub nothing_left : (read rest : Result (List ScriptAct) ScriptFault) (next : Option ScriptAct) → ((act : ScriptAct) → next ≡ Some act → ⊥) →
-    NextGives read rest (Ok next) → read ≡ Ok []
-nothing_left read rest None none gives = gives.0
-nothing_left read rest (Some act) none gives = absurd (none act refl)
 
 -- at the end all acts were run, and the lines with that of the totals are their output
 pub run_ends : (read : Result (List ScriptAct) ScriptFault) (first run : RunState) (before lines output : List ℕ) (sums : Sums)

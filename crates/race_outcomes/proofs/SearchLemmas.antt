@@ -1,5 +1,5 @@
 -- A search goes on: place by place, and at each place lane by lane.
-use Rattle.std.proofs.Common.{◌≡◌, ◌∙◌, ◌<◌, ◌≤◌, ◌+◌, ◌++◌, ◌⊎◌, ◌↔◌, ℕ, List, [], ◌∷◌, Bool, true, false, Option, None, Some, length, refl, ap, sym, subst, inl, inr, arith}
+use Rattle.std.proofs.Common.{◌≡◌, ◌∙◌, ◌<◌, ◌≤◌, ◌+◌, ◌++◌, ◌⊎◌, ℕ, List, [], ◌∷◌, Bool, true, false, Option, None, Some, length, refl, ap, sym, subst, inl, inr, arith}
 use Rattle.std.specs.List.{Contains, slice_get}
 use Rattle.std.proofs.lemmas.List.{length_push, same_from_push}
 use Rattle.std.proofs.lemmas.Option.{slice_get_within}
@@ -271,31 +271,6 @@ one_move {P} moves most place lane old new from to at goes takes =
           (λ same. absurd (grind (arith, same)), λ none. none_some (moves m.position lane) to none leads);
     }
 
--- the moves of the lanes, one after another
-pub none_below : {P : Type 0} (moves : P → ℕ → Option P) (most place : ℕ) (met : List (Met P)) → TakesBelow moves most place 0 met met false
-none_below moves most place met = record {
-  on = λ start so_far. so_far;
-  kept = λ k m is. is;
-  tells = λ m is. (λ same n less. absurd (omega (arith, less)), λ none. refl);
-}
-
-pub one_more_below : {P : Type 0} (moves : P → ℕ → Option P) (most place upto : ℕ) (old mid new : List (Met P)) (moved goes either : Bool) →
-    ((either ≡ false) ↔ ((moved ≡ false) × (goes ≡ false))) → TakesBelow moves most place upto old mid moved → TakesMove moves most place upto mid new goes →
-    TakesBelow moves most place (upto + 1) old new either
-one_more_below moves most place upto old mid new moved goes either is below takes = record {
-  on = λ start so_far. takes.on start (below.on start so_far);
-  kept = λ k m at. takes.kept k m (below.kept k m at);
-  tells = λ m at.
-      let here = takes.tells m (below.kept place m at) in
-      let before = below.tells m at in (
-        λ none n less. elim (below_or_last n upto less) [
-          | inl lower ↦ before.0 (is.0 none).0 n lower
-          | inr last ↦ subst (λ i. moves m.position i ≡ None) (sym last) (here.0 (is.0 none).1)
-        ],
-        λ none. is.1 (before.1 (λ n less. none n (omega (arith, less))), here.1 (none upto (omega arith))),
-      );
-}
-
 pub all_below : {P : Type 0} (moves : P → ℕ → Option P) (most place lanes : ℕ) (old new : List (Met P)) (goes : Bool) → place < length old →
     ((p : P) (n : ℕ) → lanes ≤ n → moves p n ≡ None) → TakesBelow moves most place lanes old new goes → TakesMoves moves most place old new goes
 all_below moves most place lanes old new goes within past below =
@@ -326,11 +301,6 @@ all_below moves most place lanes old new goes within past below =
             λ none. says.1 (λ n less. none n),
           );
     }
-
-pub too_many : {P : Type 0} (moves : P → ℕ → Option P) (most place upto : ℕ) (old mid : List (Met P)) (moved : Bool) →
-    TakesBelow moves most place upto old mid moved → ((start : P) → Searched moves start most place upto mid → MoreOrders moves start most) → (start : P) →
-    Searched moves start most place 0 old → MoreOrders moves start most
-too_many moves most place upto old mid moved below many start so_far = many start (below.on start so_far)
 
 -- the ends are noted, place by place
 no_end_yet : {P : Type 0} (moves : P → ℕ → Option P) (met : List (Met P)) → NotedEnds moves met 0 []
@@ -426,10 +396,6 @@ goes_back moves met at by said traced within says is =
         leads here.0 last here.1 at_last,
       );
     }
-
--- nothing leads on from here but to here
-pub leads_nowhere : {P : Type 0} (moves : P → ℕ → Option P) (met : List (Met P)) (place : ℕ) → LeadsBetween moves met place place []
-leads_nowhere moves met place first last at_first at_last = ap (λ m. m.position) (same_some (slice_get met place) first last at_first at_last)
 
 -- a position that was met by no move is the first
 pub from_first : {P : Type 0} (moves : P → ℕ → Option P) (met : List (Met P)) (at place : ℕ) (order : List ℕ) (said : Option Move) → AreTraced moves met →

@@ -1,5 +1,5 @@
 -- Positions that name their worlds and answers by places.
-use Rattle.std.proofs.Common.{◌≡◌, ◌∙◌, ◌<◌, ◌≤◌, ◌++◌, ◌⊎◌, ℕ, true, false, List, [], ◌∷◌, Option, None, Some, IfSome, zero, suc, length, replicate, slice_set, refl, ap, sym, subst, inl, inr, arith, append_assoc}
+use Rattle.std.proofs.Common.{◌≡◌, ◌∙◌, ◌<◌, ◌≤◌, ◌++◌, ◌⊎◌, ℕ, true, false, List, [], ◌∷◌, Option, None, Some, IfSome, zero, suc, length, replicate, slice_set, refl, ap, sym, subst, inl, inr, arith}
 use Rattle.std.specs.List.{slice_get}
 use Rattle.std.specs.Option.{option_map}
 use Rattle.std.proofs.lemmas.List.{length-map, map-set}
@@ -16,7 +16,7 @@ use Rattle.race_outcomes.specs.declared.search.Onward.{Onward}
 use Rattle.race_outcomes.specs.declared.search.Search.{Search}
 use Rattle.race_outcomes.specs.declared.search.Turn.{Turn}
 use Rattle.race_outcomes.specs.declared.search.Way.{Way}
-use Rattle.race_outcomes.specs.Moves.{answered, going_on, move, move_on, moved}
+use Rattle.race_outcomes.specs.Moves.{answered, move, moved}
 use Rattle.race_outcomes.specs.Positions.{or_empty, or_none, told_at, position_of, met_of, positions}
 use Rattle.race_outcomes.specs.Tables.{StandsAt}
 use Rattle.race_outcomes.specs.Orders.{MoreOrders}
@@ -33,9 +33,6 @@ nothing_more (x ∷ xs) = ap (λ ys. x ∷ ys) (nothing_more xs)
 
 pub stays : {X : Type 0} (old new : List X) → new ≡ old → Extends old new
 stays old new same = ([], same ∙ sym (nothing_more old))
-
-pub extends_twice : {X : Type 0} (old mid new : List X) → Extends old mid → Extends mid new → Extends old new
-extends_twice old mid new first second = (first.0 ++ second.0, second.1 ∙ ap (λ xs. xs ++ second.0) first.1 ∙ append_assoc old first.0 second.0)
 
 pub stands_still : {X : Type 0} (old new : List X) → Extends old new → (k : ℕ) (x : X) → slice_get old k ≡ Some x → slice_get new k ≡ Some x
 stands_still old new more k x at = subst (λ xs. slice_get xs k ≡ Some x) (sym more.1) (kept_in old more.0 k x at)
@@ -110,23 +107,6 @@ way_still bounds lanes old new way more is = record {
   led_still old new more told lane row (Some o) target =
       ap (λ w. Some (record { world = or_empty w; told = slice_set told lane (answered o.resumes row o.outcome) })) (same_place old new more o.world target)
 
--- what the next act of a lane comes to
-pub goes_so : (bounds : Bounds) (lanes : List Lane) (worlds : List World) (turn : Turn) (w : World) (lane : Lane) (going : Option Going) →
-    slice_get worlds turn.world ≡ Some w → slice_get lanes turn.lane ≡ Some lane → going ≡ going_on bounds w lane turn.begun →
-    GoesOn bounds lanes worlds turn going
-goes_so bounds lanes worlds turn w lane going at_world at_lane is = λ told row at long.
-    let from : Position = record { world = or_empty (slice_get worlds turn.world); told = told } in
-    ap (λ l. move_on bounds from turn.lane l (slice_get told turn.lane)) at_lane
-    ∙ ap (λ r. move_on bounds from turn.lane (Some lane) r) at
-    ∙ ap (λ n. option_map (moved told turn.lane row) (going_on bounds (or_empty (slice_get worlds turn.world)) lane n)) long
-    ∙ ap (λ x. option_map (moved told turn.lane row) (going_on bounds (or_empty x) lane turn.begun)) at_world
-    ∙ ap (option_map (λ g. moved told turn.lane row g)) (sym is)
-
-pub goes_nowhere : (bounds : Bounds) (lanes : List Lane) (worlds : List World) (turn : Turn) → slice_get lanes turn.lane ≡ None →
-    GoesOn bounds lanes worlds turn None
-goes_nowhere bounds lanes worlds turn none = λ told row at long. ap
-    (λ l. move_on bounds (record { world = or_empty (slice_get worlds turn.world); told = told }) turn.lane l (slice_get told turn.lane)) none
-
 -- what an act leads to is what it comes to
 named_leads : (old new : List World) (g : Going) (o : Onward) (told : List (List Outcome)) (lane : ℕ) (row : List Outcome) → o.resumes ≡ g.resumes →
     o.outcome ≡ g.outcome → slice_get new o.world ≡ Some g.world → moved told lane row g ≡ led new told lane row o
@@ -184,17 +164,6 @@ kept_after bounds lanes old new turn kept learnt = record {
   ];
 }
 
--- an act that was made before is found, and else it is made
-pub finds_known : (bounds : Bounds) (lanes : List Lane) (search : Search) (turn : Turn) (place : ℕ) → IsKept bounds lanes search →
-    StandsAt (λ (way : Way). way.turn) search.ways turn place → FindsWay bounds lanes search search turn place
-finds_known bounds lanes search turn place kept stands = record {
-  met = refl;
-  rows = refl;
-  worlds = stays search.worlds search.worlds refl;
-  kept = kept;
-  stands = stands;
-}
-
 pub finds_new : (bounds : Bounds) (lanes : List Lane) (old new : Search) (turn : Turn) (place : ℕ) → IsKept bounds lanes old →
     LearnsWay bounds lanes old new turn → place ≡ length old.ways → FindsWay bounds lanes old new turn place
 finds_new bounds lanes old new turn place kept learnt is = record {
@@ -226,35 +195,12 @@ told_there rows places lane row told at there =
     ∙ ap (option_map (λ place. or_none (slice_get rows place))) at
     ∙ ap (λ o. Some (or_none o)) there
 
--- a lane without a row of answers does not move
-pub no_row : (bounds : Bounds) (lanes : List Lane) (worlds : List World) (rows : List (List Outcome)) (spot : Spot) (lane : ℕ) →
-    slice_get spot.rows lane ≡ None → move bounds lanes (position_of worlds rows spot) lane ≡ None
-no_row bounds lanes worlds rows spot lane none =
-    let nothing : slice_get (told_at rows spot.rows) lane ≡ None = slice_get-map (λ place. or_none (slice_get rows place)) spot.rows lane ∙
-    ap (option_map (λ place. or_none (slice_get rows place))) none in
-    nowhere (slice_get lanes lane) (slice_get (told_at rows spot.rows) lane) nothing
-  where
-    nowhere : (l : Option Lane) (told : Option (List Outcome)) → told ≡ None → move_on bounds (position_of worlds rows spot) lane l told ≡ None
-    nowhere None told is = refl
-    nowhere (Some l) told is = ap (λ t. move_on bounds (position_of worlds rows spot) lane (Some l) t) is
-
 -- the places that a position names which was met
 pub copied_within : (bounds : Bounds) (lanes : List Lane) (search : Search) (place : ℕ) (spot : Spot) → IsKept bounds lanes search → place < length search.met →
     ((m : Met Spot) → slice_get search.met place ≡ Some m → spot ≡ m.position) → IsWithin search.worlds search.rows spot
 copied_within bounds lanes search place spot kept within is =
     let here : (m : _) × (slice_get search.met place ≡ Some m) = some_there search.met place within in
     subst (λ s. IsWithin search.worlds search.rows s) (sym (is here.0 here.1)) (kept.spots place here.0 here.1)
-
--- a move that is not made
-pub stays_here : (bounds : Bounds) (lanes : List Lane) (search : Search) (by : Move) (spot : Spot) → IsKept bounds lanes search →
-    ((m : Met Spot) → slice_get search.met by.from ≡ Some m → spot ≡ m.position) → slice_get spot.rows by.lane ≡ None → Moves bounds lanes search search by None
-stays_here bounds lanes search by spot kept is none = record {
-  met = refl;
-  same = refl;
-  kept = kept;
-  goes = λ from at. no_row bounds lanes search.worlds search.rows from.position by.lane (subst (λ s. slice_get s.rows by.lane ≡ None) (is from at) none);
-  within = tt;
-}
 
 -- where the next act of a lane leads from a position
 leads_from : (bounds : Bounds) (lanes : List Lane) (old mid : Search) (spot : Spot) (turn : Turn) (place row : ℕ) (told : List Outcome) (way : Way) →
@@ -357,11 +303,6 @@ met_there : (worlds : List World) (rows : List (List Outcome)) (met : List (Met 
     slice_get (positions worlds rows met) k ≡ Some (met_of worlds rows m)
 met_there worlds rows met k m at = slice_get-map (λ x. met_of worlds rows x) met k ∙ ap (option_map (λ x. met_of worlds rows x)) at
 
-met_push : (worlds : List World) (rows : List (List Outcome)) (met : List (Met Spot)) (m : Met Spot) →
-    positions worlds rows (met ++ m ∷ []) ≡ positions worlds rows met ++ met_of worlds rows m ∷ []
-met_push worlds rows [] m = refl
-met_push worlds rows (x ∷ xs) m = ap (λ rest. met_of worlds rows x ∷ rest) (met_push worlds rows xs m)
-
 pub as_many : (worlds : List World) (rows : List (List Outcome)) (met : List (Met Spot)) → length (positions worlds rows met) ≡ length met
 as_many worlds rows met = length-map met (λ m. met_of worlds rows m)
 
@@ -375,16 +316,6 @@ met_before most place search next stands = inl (
     stands = met_there search.worlds search.rows search.met place stands.item stands.stands;
     is = ap (λ s. position_of search.worlds search.rows s) stands.is;
   },
-)
-
-pub met_now : (most : ℕ) (old new : Search) (next : Met Spot) → length old.met < most → TakesSpot old new next → new.met ≡ old.met ++ next ∷ [] →
-    TakesIn most (met_in old) (met_in new) (met_of old.worlds old.rows next)
-met_now most old new next room takes is = inr (
-  ap (λ ws. positions ws new.rows new.met) takes.worlds
-      ∙ ap (λ rs. positions old.worlds rs new.met) takes.rows
-      ∙ ap (λ ms. positions old.worlds old.rows ms) is
-      ∙ met_push old.worlds old.rows old.met next,
-  subst (λ n. n < most) (sym (as_many old.worlds old.rows old.met)) room,
 )
 
 pub kept_with : (bounds : Bounds) (lanes : List Lane) (old new : Search) (next : Met Spot) → IsKept bounds lanes old →

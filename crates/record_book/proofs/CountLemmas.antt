@@ -1,6 +1,5 @@
 -- A book with one more record counts it.
 use Rattle.std.proofs.Common.{◌≡◌, ◌∙◌, ℕ, ◌+◌, ◌≤◌, ◌<◌, ◌||◌, Bool, true, false, cond, List, [], ◌∷◌, ◌++◌, Option, None, Some, length, refl, ap, sym, arith, length-append}
-use Rattle.std.specs.Prelude.{is_some}
 use Rattle.std.specs.Option.{option_map, option_map_or}
 use Rattle.call_types.specs.declared.limits.Bounds.{Bounds}
 use Rattle.call_types.specs.declared.limits.TheConstants.{GIVEN_BYTES_MAX}
@@ -140,12 +139,6 @@ few_opened planned old new t house actor a receipt is appends stays short =
     let flag : closed_as new ≡ closed_as old = ap (λ b. cond b 1 0) same in
     let count : length new.history ≡ length old.history + 1 = ap length appends.history ∙ length-append old.history (receipt.record_is ∷ []) in
     omega (arith, is.opened, is.few_seats, flag, count, short, one_left (world_now new).closed (live (world_now new).processes))
-
--- the house of an open run has shares
-pub has_shares : (house : Option (List Receipted)) (shares : Option Counted) → shares ≡ option_map (λ receipts. only_records (length receipts)) house →
-    is_some house ≡ true → shares ≡ None → ⊥
-has_shares None shares is there none = cc
-has_shares (Some rs) shares is there none = cc
 
 same_shares : (a b : Counted) → Some a ≡ Some b → a ≡ b
 same_shares a b e = cc

@@ -1,5 +1,5 @@
 -- The exits that are prepared, and the room of the house.
-use Rattle.std.proofs.Common.{◌≡◌, ◌∙◌, ℕ, zero, suc, ◌+◌, ◌≤◌, ◌<◌, true, false, cond, map, drop, append_assoc, append-nil, length-append, List, [], ◌∷◌, ◌++◌, Option, None, Some, length, set, refl, ap, sym, subst, arith}
+use Rattle.std.proofs.Common.{◌≡◌, ◌∙◌, ℕ, zero, suc, ◌+◌, ◌≤◌, ◌<◌, true, false, cond, map, drop, append_assoc, length-append, List, [], ◌∷◌, ◌++◌, Option, None, Some, length, set, refl, ap, sym, subst, arith}
 use Rattle.std.specs.Prelude.{is_some}
 use Rattle.std.specs.Option.{option_map}
 use Rattle.call_types.specs.declared.act.Record.{Record}
@@ -127,12 +127,6 @@ drop_next [] n below = absurd (omega arith)
 drop_next (x ∷ xs) zero below = refl
 drop_next (x ∷ xs) (suc n) below = drop_next xs n (omega (arith, below))
 
-drop_past : {T : Type 0} (xs : List T) (n : ℕ) → length xs ≤ n → drop n xs ≡ []
-drop_past [] zero past = refl
-drop_past [] (suc n) past = refl
-drop_past (x ∷ xs) zero past = absurd (omega (arith, past))
-drop_past (x ∷ xs) (suc n) past = drop_past xs n (omega (arith, past))
-
 drop_emptied : {T : Type 0} (xs : List (Option T)) (n : ℕ) → drop (suc n) (set xs n None) ≡ drop (suc n) xs
 drop_emptied [] n = refl
 drop_emptied (x ∷ xs) zero = refl
@@ -153,9 +147,6 @@ ahead_orphan ps n below one =
     let next : n + 1 ≡ suc n = omega arith in
     rw (next, drop_next ps n below, one, drop_emptied ps n) refl
 
-pub ahead_none : (ps : List (Option Process)) (n : ℕ) → length ps ≤ n → exits_ahead n ps ≡ []
-ahead_none ps n past = rw (drop_past ps n past) refl
-
 -- receipts of records in a row
 pub receipts_more : (place : ℕ) (xs ys : List Record) → receipts_from place (xs ++ ys) ≡ receipts_from place xs ++ receipts_from (place + length xs) ys
 receipts_more place [] ys = let same : place + 0 ≡ place = omega arith in rw same refl
@@ -169,10 +160,6 @@ pub told_twice : (place : ℕ) (xs ys : List Record) (house : Option (List Recei
 told_twice place xs ys None = refl
 told_twice place xs ys (Some rs) = ap Some (append_assoc rs (receipts_from place xs) (receipts_from (place + length xs) ys) ∙
     ap (λ more. rs ++ more) (sym (receipts_more place xs ys)))
-
-pub told_none : (place : ℕ) (house : Option (List Receipted)) → told_more place [] house ≡ house
-told_none place None = refl
-told_none place (Some rs) = ap Some (append-nil rs)
 
 -- the exits of a closing and the closing itself, told as one
 pub ends_as_one : (a b c : BookState) (rs : List Record) (s : SeatState) → OrphansEnd a b → Ends b c rs s → Ends a c (orphans_exits (world_now a) ++ rs) s

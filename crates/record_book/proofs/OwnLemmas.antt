@@ -1,8 +1,8 @@
 -- What is counted of receipts is their own, and stays so with one receipt more.
-use Rattle.std.proofs.Common.{◌≡◌, ◌∙◌, ℕ, ◌≤◌, ◌-◌, Bool, true, false, cond, List, [], ◌∷◌, ◌++◌, Option, None, Some, length, sum_by, refl, ap, sym, arith, length-append}
+use Rattle.std.proofs.Common.{◌≡◌, ◌∙◌, ℕ, ◌≤◌, ◌-◌, Bool, true, false, cond, List, [], ◌∷◌, Option, None, Some, length, sum_by, ap, sym, arith}
 use Rattle.std.specs.Prelude.{is_some}
 use Rattle.std.specs.Option.{option_map, option_map_or}
-use Rattle.std.proofs.lemmas.List.Sums.{sum_by-cons, sum_by_push}
+use Rattle.std.proofs.lemmas.List.Sums.{sum_by-cons}
 use Rattle.call_types.specs.CallTable.{payload_of}
 use Rattle.call_types.specs.declared.act.Act.{Act}
 use Rattle.call_types.specs.declared.act.Act.TheVariants as act
@@ -10,11 +10,11 @@ use Rattle.call_types.specs.declared.outcome.Outcome.{Outcome}
 use Rattle.slots.specs.Slots.{slot}
 use Rattle.process_table.specs.Processes.{parked_of}
 use Rattle.posix_model.specs.Types.{Parked}
-use Rattle.posix_model.specs.Turns.{total, took_in, turn, next_turn, took, gave}
+use Rattle.posix_model.specs.Turns.{total, took_in, turn, next_turn}
 use Rattle.posix_model.specs.declared.world.World.{World}
-use Rattle.byte_ledger.specs.Counted.{Counted, counted_more}
+use Rattle.byte_ledger.specs.Counted.{Counted}
 use Rattle.record_book.specs.Seat.{Receipted}
-use Rattle.record_book.specs.Counting.{CountsOwn, given_by, least_moved, most_moved, least_taken_by, most_taken_by, only_records}
+use Rattle.record_book.specs.Counting.{CountsOwn, least_moved, most_moved, least_taken_by, most_taken_by, only_records}
 use Rattle.record_book.specs.Proved.Quiet.{AreQuiet}
 
 -- what a turn takes is no more than all that its call has moved
@@ -26,34 +26,10 @@ taken_next : (parked : Option Parked) (now : ℕ) → option_map_or (took_in now
 taken_next None now = omega arith
 taken_next (Some parked) now = within (is_some (payload_of parked.call)) now parked.moved
 
--- what a record took is between the least and the most
-least_of : (w : World) (actor : ℕ) (a : Act) (told : Outcome) → least_moved a told ≤ option_map_or (took_in (total told)) (turn w actor a) 0
-least_of w actor (act.Call c) told = omega arith
-least_of w actor other told = omega arith
-
 most_of : (w : World) (actor : ℕ) (a : Act) (told : Outcome) → option_map_or (took_in (total told)) (turn w actor a) 0 ≤ most_moved a told
 most_of w actor (act.Call c) told = omega arith
 most_of w actor act.Resume told = taken_next (parked_of (slot w.processes actor)) (total told)
 most_of w actor other told = omega arith
-
--- one record more was counted, and its receipt is the last
-pub own_more : (c : Counted) (receipts : List Receipted) (w : World) (receipt : Receipted) (bytes_in bytes_out : ℕ)
-    → CountsOwn c receipts → bytes_in ≡ took w receipt.record_is → bytes_out ≡ gave w receipt.record_is → CountsOwn (counted_more bytes_in bytes_out c)
-    (receipts ++ receipt ∷ [])
-own_more c receipts w receipt bytes_in bytes_out own took_is gave_is =
-    let r = receipt.record_is in
-    let least = least_of w r.actor r.act r.outcome in
-    let most = most_of w r.actor r.act r.outcome in
-    record {
-      records_are = let count = length-append receipts (receipt ∷ []) in omega (arith, own.records_are, count);
-      given_are = let all = sum_by_push given_by receipts receipt in omega (arith, own.given_are, all, gave_is);
-      taken_least = let all = sum_by_push least_taken_by receipts receipt in omega (arith, own.taken_least, all, took_is, least);
-      taken_most = let all = sum_by_push most_taken_by receipts receipt in omega (arith, own.taken_most, all, took_is, most);
-    }
-
--- nothing is counted of no receipts
-pub own_none : CountsOwn (only_records 0) []
-own_none = record { records_are = refl; given_are = refl; taken_least = omega arith; taken_most = omega arith }
 
 -- the least is no more than the most
 least_most : (a : Act) (told : Outcome) → least_moved a told ≤ most_moved a told
@@ -82,11 +58,3 @@ own_quiet receipts c is quiet =
       taken_least = omega (arith, least, quiet.take_none);
       taken_most = omega (arith, taken);
     }
-
--- receipts that were quiet stay so with one that took and gave nothing
-pub quiet_more : (receipts more : List Receipted) (receipt : Receipted) → more ≡ receipts ++ receipt ∷ [] → AreQuiet receipts → most_taken_by receipt ≡ 0 →
-    given_by receipt ≡ 0 → AreQuiet more
-quiet_more receipts more receipt is quiet takes gives = rw is (record {
-  take_none = let all = sum_by_push most_taken_by receipts receipt in omega (arith, quiet.take_none, all, takes);
-  give_none = let all = sum_by_push given_by receipts receipt in omega (arith, quiet.give_none, all, gives);
-})

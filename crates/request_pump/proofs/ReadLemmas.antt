@@ -1,5 +1,5 @@
 -- A read more.
-use Rattle.std.proofs.Common.{◌≡◌, ◌∙◌, ℕ, ◌+◌, ◌<◌, ◌≤◌, false, inl, inr, List, [], ◌++◌, Option, None, Some, take, arith, refl, sym, ap, subst}
+use Rattle.std.proofs.Common.{◌≡◌, ◌∙◌, ℕ, ◌+◌, ◌<◌, false, List, [], ◌++◌, Option, None, Some, take, arith, refl, sym, ap, subst}
 use Rattle.std.proofs.lemmas.List.{append-nil}
 use Rattle.std.proofs.KnownBytes.{Consumes-nil, Consumes-trans}
 use Rattle.std.specs.Io.KnownBytes.{Consumes}
@@ -55,16 +55,6 @@ bytes_read capacity from to buffer count piece decoder after mid new found sound
   goes = goes;
 }
 
-pub nothing_read : CutsDoNotMatter SpellsRequest 65792 → (capacity : ℕ) (from to : LoggedReaderState) (buffer : List ℕ) (decoder : DecoderState)
-    (mid : List Request) → from.log.failed ≡ false → ReadsOnce from to buffer gave.Nothing → PumpsOn capacity from to decoder decoder mid mid (Some end.Closed)
-nothing_read law capacity from to buffer decoder mid sound h = record {
-  piece = [];
-  consumes = h.gives.0;
-  calls = calls_more gave.Nothing from.log to.log h.log;
-  may = (h.gives.1, ap (λ (log : LogState). log.failed) h.log ∙ sound);
-  goes = λ (input : List ℕ) (old : List Request) (p : IsPumping input decoder old mid). all_read law input decoder old mid p;
-}
-
 pub interrupted : (capacity : ℕ) (from to : LoggedReaderState) (buffer : List ℕ) (decoder : DecoderState) (mid : List Request) → from.log.failed ≡ false →
     ReadsOnce from to buffer gave.Interrupted → to.log.interruptions < INTERRUPTIONS_MAX → PumpsOn capacity from to decoder decoder mid mid None
 interrupted capacity from to buffer decoder mid sound h few = record {
@@ -85,17 +75,6 @@ failed law capacity from to decoder mid none calls worn = record {
   may = worn;
   goes = λ (input : List ℕ) (old : List Request) (p : IsPumping input decoder old mid). all_read law input decoder old mid p;
 }
-
-pub interrupted_enough : CutsDoNotMatter SpellsRequest 65792 → (capacity : ℕ) (from to : LoggedReaderState) (buffer : List ℕ) (decoder : DecoderState)
-    (mid : List Request) → ReadsOnce from to buffer gave.Interrupted → INTERRUPTIONS_MAX ≤ to.log.interruptions
-    → PumpsOn capacity from to decoder decoder mid mid (Some end.ReadFault)
-interrupted_enough law capacity from to buffer decoder mid h enough = failed law capacity from to decoder mid h.gives
-    (calls_more gave.Interrupted from.log to.log h.log) (inl (inr enough))
-
-pub failed_read : CutsDoNotMatter SpellsRequest 65792 → (capacity : ℕ) (from to : LoggedReaderState) (buffer : List ℕ) (decoder : DecoderState)
-    (mid : List Request) → ReadsOnce from to buffer gave.Failed → PumpsOn capacity from to decoder decoder mid mid (Some end.ReadFault)
-failed_read law capacity from to buffer decoder mid h = failed law capacity from to decoder mid h.gives (calls_more gave.Failed from.log to.log h.log)
-    (inl (inl (ap (λ (log : LogState). log.failed) h.log)))
 
 -- ---- one read after another
 

@@ -10,7 +10,6 @@ use Rattle.run_core.specs.Run.{ClosesFor, IsLeast, fault_of_closing}
 use Rattle.run_core.specs.Unreported.{UnreportedFor}
 use Rattle.run_core.specs.declared.closing.CloseFault.{CloseFault}
 use Rattle.run_core.specs.declared.closing.CloseFault.TheVariants as fault
-use Rattle.run_core.specs.declared.report.RunFault.TheVariants as run_fault
 
 -- where all shares are there and not all places agree, the run is closed for that
 pub closes_for : (b : BookState) (seats : ℕ) (held : List Held) (why : Option TraceFault) (received : List Record) (records : ℕ) (least : Option ℕ)
@@ -33,10 +32,3 @@ unreported_for b seats held why received records least fault.NoMemory all are is
 unreported_for b seats held why received records least (fault.Missing m) all are is_least differs = absurd differs
 unreported_for b seats held why received records least (fault.Disagree place) all are is_least differs =
     (all, is_least place differs.0, λ torn. differs.1 (torn.0, rw are torn.1))
-
--- nor is that the want of a thread
-pub no_thread_for : (least : Option ℕ) (why : Option TraceFault) (records : ℕ) (received : List Record) (closing : CloseFault)
-    → DiffersFor least why records received closing → fault_of_closing closing ≡ run_fault.NoThread → ⊥
-no_thread_for least why records received fault.NoMemory differs is = cc
-no_thread_for least why records received (fault.Missing m) differs is = cc
-no_thread_for least why records received (fault.Disagree place) differs is = cc

@@ -19,11 +19,6 @@ use Rattle.run_core.specs.declared.sessions.Want.{Want}
 
 -- ---- what a source gives
 
--- nothing was given
-pub gives_none : (coming : Option (List Streams)) → GivesConnections coming coming []
-gives_none None = tt
-gives_none (Some coming) = refl
-
 -- connections were given, and then others
 gives_more : (a b c : Option (List Streams)) (first next : List Streams) → GivesConnections a b first → GivesConnections b c next →
     GivesConnections a c (first ++ next)

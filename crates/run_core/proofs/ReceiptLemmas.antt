@@ -1,17 +1,14 @@
 -- Which receipts of seats are good, one seat after another.
-use Rattle.std.proofs.Common.{◌≡◌, true, false, ℕ, suc, ◌+◌, ◌<◌, ◌≤◌, ◌⊎◌, List, [], ◌∷◌, ◌++◌, map, Option, None, Some, length, refl, sym, ap, subst, ◌∙◌, arith, IfSome, inl, inr}
+use Rattle.std.proofs.Common.{◌≡◌, ℕ, suc, ◌+◌, ◌<◌, ◌≤◌, ◌⊎◌, List, [], ◌∷◌, ◌++◌, map, Option, None, Some, length, refl, sym, ap, subst, ◌∙◌, arith, IfSome, inl, inr}
 use Rattle.std.specs.List.{slice_get, slice_index}
 use Rattle.std.proofs.lemmas.List.{append-nil, get_or_past}
 use Rattle.std.proofs.lemmas.Bool.{cases_lt}
 use Rattle.std.proofs.lemmas.Option.{slice_get_past}
 use Rattle.std.proofs.lemmas.Bool.Decides.{nat_tests}
 use Rattle.run_core.specs.Receipts.{Held, Agrees, GoodAt, GoodFrom, IsBefore, names, named, wanted}
-use Rattle.run_core.specs.Run.{held_in, AreAll, IsClosing, IsLeast}
+use Rattle.run_core.specs.Run.{held_in, AreAll, IsLeast}
 use Rattle.call_types.specs.declared.act.Record.{Record}
 use Rattle.record_book.specs.Seat.{Receipted, SeatState}
-use Rattle.record_book.specs.Book.{BookState, world_now}
-use Rattle.record_book.specs.Ends.{Ends, told_more}
-use Rattle.record_book.specs.Exits.{closing_records, receipts_from}
 
 -- of no seats nothing is asked
 pub none_left : (h : List Record) (p : ℕ) (left : List Held) → length left ≡ 0 → GoodAt h p left
@@ -187,21 +184,3 @@ seats_alone seats others all is none = ap (λ (hs : List SeatState). map held_in
 pub with_house : (held : List Held) (houses : List SeatState) (house : SeatState) → houses ≡ house ∷ [] →
     held ++ map held_in houses ≡ held ++ held_in house ∷ []
 with_house held houses house is = ap (λ (hs : List SeatState). held ++ map held_in hs) is
-
--- a house that held no receipt holds those of the closing
-closing_receipts : (house : Option (List Receipted)) (place : ℕ) (rs : List Record) (receipts : List Receipted) → house ≡ Some [] →
-    Some receipts ≡ told_more place rs house → receipts ≡ receipts_from place rs
-closing_receipts house place rs receipts none is =
-    let told : Some receipts ≡ told_more place rs (Some []) = subst (λ (o : Option (List Receipted)). Some receipts ≡ told_more place rs o) none is in cc
-
-pub closing_is : (before book : BookState) (house : SeatState) → before.house ≡ Some [] → (world_now before).closed ≡ false → (world_now book).closed ≡ true →
-    Ends before book (closing_records (world_now before)) house → IsClosing before book house
-closing_is before book house none still_open shut h = record {
-  limits_are = h.limits;
-  was_open = still_open;
-  history_is = h.history;
-  pid_is = h.pid;
-  receipts_are = closing_receipts before.house (length before.history) (closing_records (world_now before)) house.receipts none h.receipts;
-  counts_are = h.counts;
-  is_closed = shut;
-}

@@ -1,5 +1,5 @@
 -- The exits of a closing, one after another, and the closing itself.
-use Rattle.std.proofs.Common.{◌≡◌, ◌∙◌, ℕ, ◌+◌, ◌≤◌, ◌<◌, Bool, true, false, List, [], ◌∷◌, ◌++◌, Option, None, Some, length, set, refl, ap, sym, subst, arith, append_assoc, append-nil, length-set}
+use Rattle.std.proofs.Common.{◌≡◌, ◌∙◌, ℕ, ◌+◌, ◌<◌, Bool, true, false, List, [], ◌∷◌, ◌++◌, Option, None, Some, length, set, refl, ap, sym, subst, arith, append_assoc, length-set}
 use Rattle.std.specs.Prelude.{not}
 use Rattle.std.specs.Option.{option_map}
 use Rattle.call_types.specs.declared.act.TheConstants.{HOUSE}
@@ -18,7 +18,7 @@ use Rattle.posix_model.specs.declared.world.World.{World}
 use Rattle.posix_model.proofs.SlotLaws.{test_set}
 use Rattle.record_book.specs.Seat.{Receipted}
 use Rattle.record_book.specs.Exits.{exit_record, closing_record, closing_records, orphans_exits, receipts_from}
-use Rattle.record_book.proofs.ExitLemmas.{exits_ahead, ahead_other, ahead_orphan, ahead_none, receipts_more}
+use Rattle.record_book.proofs.ExitLemmas.{exits_ahead, ahead_other, ahead_orphan, receipts_more}
 use Rattle.record_book.proofs.HistoryLemmas.{legal_from-push}
 use Rattle.record_book.specs.RunState.{RunState, grown}
 use Rattle.script_run.specs.Proved.Closing.{Adds, ClosesBy, OrphansEnd, OrphansSoFar, SameHere, grown_by}
@@ -61,17 +61,6 @@ adds_more old now new before after done actor a told adds made =
           sym (receipts_more start done (r ∷ []))));
     }
 
--- no exit yet
-pub none_yet : (s : RunState) (told : List Receipted) → OrphansSoFar s s told told (exits_ahead 0 s.world.processes)
-none_yet s told = record {
-  done = [];
-  adds = record { is_legal = tt; new_is = refl; told = sym (append-nil told) };
-  all = refl;
-  closed = refl;
-  here = λ q. refl;
-  numbers = refl;
-}
-
 -- a process that has its connection is passed over
 pub orphan_passed : (old now : RunState) (before after : List Receipted) (n : ℕ) → OrphansSoFar old now before after (exits_ahead n now.world.processes) →
     n < length now.world.processes →
@@ -108,14 +97,6 @@ orphan_ended planned old now new before after n told so_far below waits made is 
       here = λ q. here q ∙ so_far.here q;
       numbers = ap length processes ∙ (length-set ps n None ∙ so_far.numbers);
     }
-
--- all are passed or have ended
-pub orphans_ended : (old now : RunState) (before after : List Receipted) (n : ℕ) → OrphansSoFar old now before after (exits_ahead n now.world.processes) →
-    length old.world.processes ≤ n → OrphansEnd old now before after
-orphans_ended old now before after n so_far past =
-    let none : exits_ahead n now.world.processes ≡ [] = ahead_none now.world.processes n (omega (arith, so_far.numbers, past)) in
-    let all : so_far.done ≡ orphans_exits old.world = sym (append-nil so_far.done) ∙ (ap (λ (l : List Record). so_far.done ++ l) (sym none) ∙ so_far.all) in
-    record { adds = subst (Adds old now before after) all so_far.adds; closed = so_far.closed; here = so_far.here }
 
 -- the closing leaves the processes
 closing_processes : (s t : RunState) (told : Receipted) → Grows s t HOUSE act.CloseRun told → t.world.processes ≡ s.world.processes

@@ -71,9 +71,6 @@ world_stepped s t actor a told d made is = world_made s t actor a told made ∙ 
 pub records_made : (s t : RunState) (actor : ℕ) (a : Act) (told : Receipted) → Grows s t actor a told → t.counts.records ≡ s.counts.records + 1
 records_made s t actor a told made = ap (λ (x : RunState). x.counts.records) made.new_is
 
-pub limits_made : (s t : RunState) (actor : ℕ) (a : Act) (told : Receipted) → Grows s t actor a told → t.limits ≡ s.limits
-limits_made s t actor a told made = ap (λ (x : RunState). x.limits) made.new_is
-
 -- an act of which a record was made came to something
 came : (w : World) (bytes : List ℕ) (x : Option Decided) (o : Outcome) → option_map (λ s. s.outcome) (option_map (stepped w bytes) x) ≡ Some o →
     (d : Decided) × (x ≡ Some d)

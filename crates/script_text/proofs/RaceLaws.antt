@@ -23,10 +23,6 @@ fails_too (faults.NoCall line) r s h e = h e
 fails_too (faults.BadAnswer line column) r s h e = h e
 fails_too faults.TooLong r s h e = h e
 
--- what fails is not read on from
-pub fails_on : {A B : Type 0} (fault : RaceFault) (r : Result A RaceFault) (f : A → Result B RaceFault) → RaceFails fault r → RaceFails fault (r >>= f)
-fails_on {A} {B} fault r f h = fails_too fault r (r >>= f) (λ (e : r ≡ Err fault). ap (λ (x : Result A RaceFault). x >>= f) e) h
-
 -- ---- the calls
 
 call_lines : (n : ℕ) (bytes line : List ℕ) (after : Unread) → (line, after) ≡ cut 10 bytes →

@@ -19,10 +19,6 @@ abbrev pub Unbroken : List ℕ → Type 0
 Unbroken [] = Unit {0}
 Unbroken (c ∷ cs) = (c ≡ 32 → ⊥) × Unbroken cs
 
-pub unbroken_both : (a b : List ℕ) → Unbroken a → Unbroken b → Unbroken (a ++ b)
-unbroken_both [] b h k = k
-unbroken_both (c ∷ cs) b h k = (h.0, unbroken_both cs b h.1 k)
-
 no_space : (c : ℕ) (b : Bool) → eqb c 32 ≡ b → b ≡ false → c ≡ 32 → ⊥
 no_space c b e f h = absurd (let t = sym (eq-eqb c 32 h) ∙ e ∙ f in cc)
 

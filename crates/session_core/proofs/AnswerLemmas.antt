@@ -1,11 +1,9 @@
 -- Requests that are answered in one thread.
-use Rattle.std.proofs.Common.{◌≡◌, ℕ, Bool, true, List, [], Option, Some, Result, Ok, Err, refl, sym, subst}
+use Rattle.std.proofs.Common.{◌≡◌, ℕ, Bool, true, List, [], Option, Result, Ok, Err, refl, subst}
 use Rattle.std.proofs.lemmas.List.{append-nil}
-use Rattle.std.proofs.KnownBytes.{Appends-nil}
 use Rattle.std.specs.Result.{result_ok}
 use Rattle.rtrb.specs.Ring.{received}
 use Rattle.call_types.specs.declared.request.Request.{Request}
-use Rattle.logged_streams.specs.Streams.{LoggedWriterState, fresh_log}
 use Rattle.record_book.specs.Seat.{SeatState}
 use Rattle.session_core.specs.declared.answer.AnsweredSeat.TheVariants as seat
 use Rattle.session_core.specs.declared.end.End.TheVariants as end
@@ -20,8 +18,8 @@ use Rattle.session_core.specs.Refusals.{RefusalSaid}
 use Rattle.session_core.specs.Said.{EndSaid}
 use Rattle.session_core.specs.Served.{AreTaken, ComesBy, EndsAt}
 use Rattle.session_core.specs.Stages.{LeftSession, Standing}
-use Rattle.session_core.proofs.ClosingLemmas.{all_written, first_none}
-use Rattle.session_core.proofs.RefusalLemmas.{empty_said, kept_said, with_last_said}
+use Rattle.session_core.proofs.ClosingLemmas.{all_written}
+use Rattle.session_core.proofs.RefusalLemmas.{kept_said, with_last_said}
 use Rattle.session_core.proofs.ServeLemmas.{over_here}
 use Rattle.system_lock.specs.Kernel.{Says}
 
@@ -58,32 +56,6 @@ answers_ring says was_shut always base o ring (standing.Over left) h rest let_th
       (kept_said (RefusalSaid says (received ring)) h.old.answers o.answers h.left_by.answers h.over.said);
   let_through = let_through;
 }
-
--- memory ran out before
-pub answers_nothing : (says : Says) (always : Bool) (base : Option (List ℕ)) (ring : TakingEnd) (admission : Unit {0}) (writer : LoggedWriterState)
-    → writer ≡ record { contents = base; log = fresh_log } →
-    AnswersRing says always base (record { seat_is = seat.None admission; answers = []; end_is = Some end.NoMemory; ring = ring; writer = writer })
-answers_nothing says always base ring admission writer e =
-    subst (λ (w : LoggedWriterState). AnswersRing says always base (record {
-      seat_is = seat.None admission;
-      answers = [];
-      end_is = Some end.NoMemory;
-      ring =
-          ring;
-      writer = w;
-    })) (sym e) (record {
-      answered = (
-        record {
-          talks = first_none (AreTaken (received ring)) (received ring) [] refl refl;
-          written = Appends-nil base;
-          seated = refl;
-          ends = tt;
-        },
-        tt,
-      );
-      said = empty_said (RefusalSaid says (received ring)) [] refl;
-      let_through = λ given. refl;
-    })
 
 -- ---- the connection
 

@@ -16,7 +16,6 @@ use Rattle.session_core.specs.declared.told.Told.TheVariants as told
 use Rattle.session_core.specs.Stages.{Stage, Turn}
 use Rattle.session_core.specs.declared.stage.Stage.TheVariants as stage
 use Rattle.session_core.specs.declared.stage.Over.TheVariants as over
-use Rattle.session_core.specs.declared.stage.LeaveCause.TheVariants as why
 use Rattle.session_core.specs.declared.stage.Standing.TheVariants as standing
 use Rattle.session_core.specs.Answers.{receipts_of}
 use Rattle.session_core.specs.OutputState.{OutputState}
@@ -121,16 +120,6 @@ untold seat after call receipt old new adds kind e base handled holds talking =
       without = record { handled = handled; later = request.Call call ∷ []; requests_are = refl; is = inl (inr talking.0) };
       with_it = with_called (goes_on receipt.record_is.outcome) handled old.answers call receipt refl kind adds.act_is talking.0;
     })
-
--- memory ran out for the answer of a call that is refused
-pub refusal_unput : (seat after : SeatState) (call : Call) (old new : OutputState) → after ≡ seat → new ≡ old →
-    TakesUp (stage.Ready seat) (request.Call call) old new (standing.Over (over.Leaves (stage.Ready after) why.NoMemory))
-refusal_unput seat after call old new same e base handled holds talking =
-    subst (λ (o : OutputState). OverBy base handled (request.Call call) o (over.Leaves (stage.Ready after) why.NoMemory)) (sym e) (
-      holds,
-      (ap (λ (s : SeatState). s.receipts) same ∙ talking.1, subst (λ (s : SeatState). IsGranted s.receipts) (sym same) talking.2),
-      record { handled = handled; later = request.Call call ∷ []; requests_are = refl; is = inl (inr talking.0) },
-    )
 
 -- the writer fails before a request is taken up
 pub unflushed : (at : Stage) (next : Request) (old new : OutputState) → FailsToSend old new → TakesUp at next old new (standing.Over (over.Unwritten at))

@@ -1,11 +1,10 @@
 -- A desk: what is taken up there, and where its session stands.
 use Rattle.std.proofs.Common.{◌≡◌, ℕ, suc, ◌-◌, arith, inl, inr, List, [], ◌∷◌, ◌++◌, Option, None, Some, length, refl, sym, ◌∙◌, ap, subst}
 use Rattle.std.proofs.lemmas.List.{append-nil, append_assoc}
-use Rattle.rtrb.specs.Ring.{IsPair, SameConsumer, SameProducer}
+use Rattle.rtrb.specs.Ring.{SameConsumer}
 use Rattle.call_types.specs.declared.act.Record.{Record}
 use Rattle.call_types.specs.declared.request.Request.{Request}
 use Rattle.call_types.specs.declared.request.Request.TheVariants as request
-use Rattle.request_pump.specs.Pump.{PushingEnd}
 use Rattle.record_book.specs.Seat.{SeatState}
 use Rattle.session_core.specs.declared.told.Told.{Told}
 use Rattle.session_core.specs.Stages.{Stage, Standing, Over, Turn, LeftSession}
@@ -20,7 +19,7 @@ use Rattle.session_core.specs.Proved.Turns.{IsTalking, HasReceipts, TakesUp, Tur
 use Rattle.session_core.specs.Talk.{Converses}
 use Rattle.session_core.specs.Refusals.{AreSaid, RefusalSaid}
 use Rattle.session_core.specs.Proved.Saying.{IsReadingEnd, OverSaid, TurnSaid}
-use Rattle.session_core.specs.Proved.Desk.{HasLeft, IsAtRest, IsEnding, IsLostIn, IsNamedPair, IsOverAfter, IsReady, IsRingOf, IsShut, IsWaitingIn, LeftBy, SentIfReady, StandsThere, TurnStands}
+use Rattle.session_core.specs.Proved.Desk.{HasLeft, IsAtRest, IsEnding, IsLostIn, IsOverAfter, IsReady, IsRingOf, IsShut, IsWaitingIn, LeftBy, SentIfReady, StandsThere, TurnStands}
 use Rattle.session_core.specs.Answering.{TakingEnd}
 use Rattle.session_core.proofs.CallLemmas.{converses, has_receipts}
 use Rattle.session_core.proofs.OutputLemmas.{holds_fresh}
@@ -32,17 +31,6 @@ use Rattle.system_lock.specs.Kernel.{Says}
 pub ring_kept : (named : Option TakingEnd) (c d : TakingEnd) → IsRingOf named c → SameConsumer c d → IsRingOf named d
 ring_kept None c d h k = absurd h
 ring_kept (Some first) c d h k = ((k.0.0 ∙ h.0.0, k.0.1 ∙ h.0.1, k.0.2 ∙ h.0.2, k.0.3 ∙ h.0.3), k.1 ∙ h.1)
-
-pub ring_first : (named : Option TakingEnd) (c : TakingEnd) → named ≡ Some c → IsRingOf named c
-ring_first named c e = subst (λ (n : Option TakingEnd). IsRingOf n c) (sym e) ((refl, refl, refl, refl), refl)
-
--- the ends of the ring that is named
-pub named_pair : (named : Option TakingEnd) (p : PushingEnd) (c : TakingEnd) → IsRingOf named c → IsNamedPair named p → IsPair p c
-named_pair None p c h k = absurd h
-named_pair (Some first) p c h k = (h.0.0 ∙ k.0, h.0.1 ∙ k.1, h.0.2 ∙ k.2, h.0.3 ∙ k.3)
-
-pub named_first : (named : Option TakingEnd) (p q : PushingEnd) (c : TakingEnd) → named ≡ Some c → IsPair p c → SameProducer p q → IsNamedPair named q
-named_first named p q c e h k = subst (λ (n : Option TakingEnd). IsNamedPair n q) (sym e) (h.0 ∙ sym k.0.0, h.1 ∙ sym k.0.1, h.2 ∙ sym k.0.2, h.3 ∙ sym k.0.3)
 
 pub same_on : (a b c : TakingEnd) → SameConsumer a b → SameConsumer b c → SameConsumer a c
 same_on a b c h k = ((k.0.0 ∙ h.0.0, k.0.1 ∙ h.0.1, k.0.2 ∙ h.0.2, k.0.3 ∙ h.0.3), k.1 ∙ h.1)

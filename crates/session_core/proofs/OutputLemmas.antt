@@ -1,5 +1,5 @@
 -- What is answered, and what of it was written.
-use Rattle.std.proofs.Common.{◌≡◌, ℕ, ◌+◌, ◌≤◌, List, [], ◌++◌, Option, Result, Ok, Err, OnOk, OnErr, length, length-append, length-take-le, take-append-drop, take, drop, arith, refl, sym, ◌∙◌, ap, subst, inl, inr}
+use Rattle.std.proofs.Common.{◌≡◌, ℕ, ◌+◌, List, [], ◌++◌, Option, Result, Ok, Err, OnOk, OnErr, length, length-append, length-take-le, take-append-drop, take, drop, arith, refl, sym, ◌∙◌, ap, subst, inl}
 use Rattle.std.proofs.lemmas.List.{append_assoc}
 use Rattle.std.proofs.Math.Seq.{drop-length}
 use Rattle.std.proofs.KnownBytes.{Appends-nil, Appends-trans}
@@ -82,19 +82,6 @@ passes_holds old new p base h = record {
   appends = subst (λ (held : Option (List ℕ)). Appends base held h.text) (sym p.contents) h.appends;
   is = ap (λ (bytes : List ℕ). h.text ++ bytes) p.unsent ∙ (h.is ∙ ap answers_text (sym p.answers));
   sent_is = p.sent ∙ h.sent_is;
-}
-
--- a gate has refused an answer as often as it is asked
-pub refused_at_gate : (old new : OutputState) → Passes old new → 1000 ≤ new.sink.log.refusals → FailsToSend old new
-unfolding passes_holds
-refused_at_gate old new p refused = record {
-  answers = p.answers;
-  breaks = λ (base : Option (List ℕ)) (h : Holds base old).
-      let held = passes_holds old new p base h in
-      record {
-        front = record { text = held.text; rest = new.unsent; appends = held.appends; is = held.is; sent_is = held.sent_is };
-        broken = inr refused;
-      };
 }
 
 -- what a gate has let through is written

@@ -24,7 +24,7 @@ use Rattle.session_core.specs.OutputState.{OutputState}
 use Rattle.session_core.specs.Proved.Output.{Holds, Puts, SendsAll, FailsToSend}
 use Rattle.session_core.specs.Served.{HasExited, IsGranted}
 use Rattle.session_core.specs.Talk.{Group, told_of_all, told_last, IsReply, IsPart, IsPartTold, AreParts, IsCallGroup, AreCalls, IsWaiting, Talked, Waits, IsWantingLast, IsCut, Converses}
-use Rattle.session_core.specs.Proved.Turns.{goes_on, WhyRefused, PutsGivenUp, EndedBy, IsGivenUp, OverBy, TurnBy, IsWaitingAt}
+use Rattle.session_core.specs.Proved.Turns.{goes_on, WhyRefused, PutsGivenUp, EndedBy, OverBy, TurnBy, IsWaitingAt}
 
 -- ---- receipts
 
@@ -172,27 +172,6 @@ ended_by base handled call seat spent old new refusal found (inr h) w exits =
       exits_with seat spent old.answers new.answers exits w.granted w.receipts (ap receipts_of same),
       (None, subst (λ (l : List Told). IsCut (handled ++ request.Call call ∷ []) l None) (sym same) (cut_now handled old.answers call w.waits)),
     )
-
-pub lost_by : (base : Option (List ℕ)) (handled : List Request) (call : Call) (seat spent : SeatState) (o : OutputState) → o.unsent ≡ [] →
-    IsWaitingAt base handled call seat o → HasItsExit seat spent → IsGivenUp base (handled ++ request.Call call ∷ []) o spent
-lost_by base handled call seat spent o sent w exits =
-    record {
-      holds = w.holds;
-      sent = sent;
-      exited = exits_with seat spent o.answers o.answers exits w.granted w.receipts refl;
-      cut =
-          cut_now handled o.answers call w.waits;
-    }
-
-pub foreign_by : (base : Option (List ℕ)) (handled : List Request) (call : Call) (seat spent : SeatState) (o : OutputState) →
-    IsWaitingAt base handled call seat o → spent ≡ seat → OverBy base handled (request.Call call) o (over.Foreign spent)
-foreign_by base handled call seat spent o w same = (
-  w.holds,
-  ap (λ (s : SeatState). s.receipts) same ∙ w.receipts,
-  cut_now handled o.answers call w.waits,
-  subst (λ (s : SeatState). IsGranted s.receipts)
-      (sym same) w.granted,
-)
 
 -- ---- one turn
 

@@ -1,14 +1,10 @@
 -- What is known of a process where no refusal of its resume is due; and want of memory is told only there, and of a call that is ready.
-use Rattle.std.specs.Prelude.{◌≡◌, ℕ, Bool, true, false, not, ◌∷◌, [], Option, None, is_some, refl}
+use Rattle.std.specs.Prelude.{◌≡◌, ℕ, Bool, true, false, ◌∷◌, [], None, refl}
 use Rattle.call_types.specs.declared.refusal.Refusal.{Refusal}
 use Rattle.call_types.specs.declared.refusal.Refusal.TheVariants.{NoMemory, RunFull, NotHere, Foreign}
-use Rattle.slots.specs.Slots.{slot}
-use Rattle.process_table.specs.Processes.{is_here}
-use Rattle.posix_model.specs.Types.{Process}
 use Rattle.record_book.specs.Seat.{SeatState}
-use Rattle.record_book.specs.Book.{BookState, world_now}
+use Rattle.record_book.specs.Book.{BookState}
 use Rattle.record_book.specs.Refusals.{first_refusal, IsDue, exit_refusal, resume_refusal, ResumeRefused, is_ready_in}
-use Rattle.system_lock.specs.System.{is_live_in}
 
 none_of : (other absent full : Bool) (seen len : ℕ) → IsDue (first_refusal ((other, Foreign seen len) ∷ (absent, NotHere) ∷ (full, RunFull) ∷ [])) NoMemory →
     first_refusal ((other, Foreign seen len) ∷ (absent, NotHere) ∷ (full, RunFull) ∷ []) ≡ None
@@ -23,13 +19,6 @@ none_fewer : (other absent full : Bool) (foreign : Refusal) → first_refusal ((
 none_fewer true absent full foreign is = absurd cc
 none_fewer false true full foreign is = absurd cc
 none_fewer false false full foreign is = (refl, refl)
-
-here_live : (there : Option Process) → not (is_here there) ≡ false → is_some there ≡ true
-here_live None e = cc
-here_live other e = refl
-
-pub due_live : (b : BookState) (s : SeatState) → resume_refusal b s ≡ None → is_live_in b s.pid ≡ true
-due_live b s none = here_live (slot (world_now b).processes s.pid) (none_fewer _ _ _ _ none).1
 
 pub memory_due : (b : BookState) (s : SeatState) → ResumeRefused b s NoMemory → (resume_refusal b s ≡ None) × (is_ready_in b s.pid ≡ true)
 memory_due b s refused =

@@ -1,10 +1,9 @@
 -- What a seat owns in a history it owns in each that goes on from there, and with each record of its own it owns one more.
 use Rattle.std.proofs.Common.{◌≡◌, ◌∙◌, ◌<◌, ◌+◌, ℕ, ap, refl, sym, subst, arith, List, [], ◌∷◌, ◌++◌, append-nil, append_assoc, length-append, length, get_or, take, sum_by, Option, None, Some, Result, Ok, Err, All, AllPairs}
-use Rattle.std.proofs.lemmas.List.Elements.{All-nil, All-head, All-tail, All-get_or, All-weaker, All-push}
+use Rattle.std.proofs.lemmas.List.Elements.{All-head, All-tail, All-get_or, All-weaker, All-push}
 use Rattle.std.proofs.lemmas.List.Quantifiers.{all_pairs_push}
 use Rattle.std.proofs.lemmas.List.Sums.{fold_push, sum_by-cons, sum_by_push}
 use Rattle.std.proofs.Math.Seq.{take-append_seam}
-use Rattle.std.specs.Option.{option_map_or}
 use mathlib.Core.List.{IsPrefix}
 use Rattle.call_types.specs.declared.act.Act.{Act}
 use Rattle.call_types.specs.declared.act.Act.TheVariants as act
@@ -12,24 +11,19 @@ use Rattle.call_types.specs.declared.act.Record.{Record}
 use Rattle.call_types.specs.declared.call.Call.{Call}
 use Rattle.call_types.specs.declared.limits.Limits.{Limits}
 use Rattle.call_types.specs.declared.refusal.Refusal.{Refusal}
-use Rattle.call_types.specs.declared.request.Request.{Request}
-use Rattle.call_types.specs.declared.request.Request.TheVariants as request
 use Rattle.byte_ledger.specs.Counted.{Counted, counted_more}
 use Rattle.posix_model.specs.Types.{Bounds}
-use Rattle.posix_model.specs.declared.world.World.{World}
 use Rattle.posix_model.specs.History.{world_of}
-use Rattle.posix_model.specs.Turns.{took, gave, took_in, turn, total}
+use Rattle.posix_model.specs.Turns.{took, gave}
 use Rattle.record_book.specs.Seat.{Receipted, SeatState}
 use Rattle.record_book.specs.Book.{BookState, Receives, Records}
-use Rattle.record_book.specs.Counting.{CountsOwn, given_by, only_records}
-use Rattle.record_book.specs.Openings.{Opened, IsOpening}
-use Rattle.record_book.specs.declared.opening.Opened.TheVariants as opened
+use Rattle.record_book.specs.Counting.{given_by}
 use Rattle.run_history.specs.Fronts.{Grows}
 use Rattle.system_lock.specs.Owns.{StandsIn, taken_in, counted_of, seen_with, OwnsIn, OwnsUnder}
 use Rattle.system_lock.specs.declared.kernel.Why.{Why}
 use Rattle.system_lock.specs.declared.kernel.Why.TheVariants as why
 use Rattle.system_lock.specs.declared.acts.Tried.TheVariants as tried
-use Rattle.system_lock.specs.Proved.Events.{OpensIn, CallsIn, ExitsIn, TriesIn, opened_seat}
+use Rattle.system_lock.specs.Proved.Events.{CallsIn, ExitsIn, TriesIn}
 
 -- ---- a history that goes on
 
@@ -149,47 +143,6 @@ owns_recorded limits old new s t a r is own h =
     subst (λ (l : Option Limits). OwnsUnder l new.history t) (sym is) (subst (λ (l : List Record). OwnsIn old.limits.bounds l t) (sym h.appends.history) more)
 
 -- ---- the events under the lock
-
--- a join and an attach take nothing
-took_first : (w : World) (r : Record) (a : Act) → r.act ≡ a → turn w r.actor a ≡ None → took w r ≡ 0
-took_first w r a is none = ap (λ (b : Act). option_map_or (took_in (total r.outcome)) (turn w r.actor b) 0) is ∙
-    ap (λ t. option_map_or (took_in (total r.outcome)) t 0) none
-
-owns_first : (limits : Option Limits) (old new : BookState) (process : ℕ) (a : Act) (s : SeatState) (r : Receipted) → limits ≡ Some old.limits →
-    turn (world_of old.limits.bounds old.history) r.record_is.actor a ≡ None
-    → CountsOwn s.counted s.receipts → IsOpening old new process a s r → OwnsUnder limits new.history s
-owns_first limits old new process a s r is none counts opens =
-    let w = world_of old.limits.bounds old.history in
-    let bare : SeatState = record { pid = process; seen = 0; receipts = []; counted = only_records 0 } in
-    let nothing : OwnsIn old.limits.bounds old.history bare = record {
-      actors = All-nil (λ (x : Receipted). x.record_is.actor ≡ process);
-      stand = All-nil (StandsIn old.history);
-      ascend = λ i j d lt within. absurd (omega (arith, within));
-      seen = refl;
-      counts = refl;
-    } in
-    let all = subst (λ (x : SeatState). CountsOwn x.counted x.receipts) opens.seat counts in
-    let takes = took_first w r.record_is a opens.appends.act_is none in
-    let gives : given_by r ≡ 0 = (let sums = all.given_are in omega (arith, sums)) in
-    let counted : s.counted ≡ counted_more (took w r.record_is) (gave w r.record_is) (only_records 0) = ap (λ (x : SeatState). x.counted) opens.seat ∙
-    same_counts _ _ _ _ _ _ refl (omega (arith, takes)) (omega (arith, gives)) in
-    let receives : Receives bare s r = record {
-      pid = ap (λ (x : SeatState). x.pid) opens.seat;
-      seen = ap (λ (x : SeatState). x.seen) opens.seat;
-      receipts =
-          ap (λ (x : SeatState). x.receipts) opens.seat;
-    } in
-    let more = one_more old.limits.bounds old.history bare s r opens.appends.place opens.appends.actor_is receives counted nothing in
-    subst (λ (l : Option Limits). OwnsUnder l new.history s) (sym is)
-    (subst (λ (l : List Record). OwnsIn old.limits.bounds l s) (sym opens.appends.history) more)
-
-pub owns_opened : (limits : Option Limits) (old new : BookState) (asked : Request) (o : Opened) → limits ≡ Some old.limits →
-    CountsOwn (opened_seat o).counted (opened_seat o).receipts → OpensIn old new asked (Ok o) → OwnsUnder limits new.history (opened_seat o)
-owns_opened limits old new request.Join (opened.Seated s) is counts h = owns_first limits old new _ act.Join s h.0 is refl counts h.1.1
-owns_opened limits old new request.Join (opened.Refused s) is counts h = owns_first limits old new _ act.Join s h.0 is refl counts h.1.1
-owns_opened limits old new (request.Attach process) (opened.Seated s) is counts h = owns_first limits old new process act.Attach s h.0 is refl counts h.1.1
-owns_opened limits old new (request.Attach process) (opened.Refused s) is counts h = owns_first limits old new process act.Attach s h.0 is refl counts h.1.1
-owns_opened limits old new (request.Call call) o is counts h = absurd h
 
 -- nothing was recorded
 owns_still : (limits : Option Limits) (old new : BookState) (s t : SeatState) → new ≡ old → t ≡ s → OwnsUnder limits old.history s →

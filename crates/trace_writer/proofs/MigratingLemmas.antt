@@ -2,7 +2,7 @@
 use Rattle.std.proofs.Common.{◌≡◌, ◌∙◌, ℕ, ◌+◌, ◌*◌, ◌^◌, ◌<◌, ◌≤◌, inl, inr, List, [], ◌∷◌, ◌++◌, Option, None, Some, Ok, Err, length, take, drop, refl, sym, ap, subst, arith, append_assoc, length-append}
 use Rattle.std.proofs.lemmas.Bool.{cases_lt, lt-ltb, le-ltb}
 use Rattle.std.proofs.lemmas.List.{append-nil, length-take, take_all, take-append-drop}
-use Rattle.std.proofs.KnownBytes.{Appends-nil, Appends-trans, Consumes-nil}
+use Rattle.std.proofs.KnownBytes.{Appends-nil, Appends-trans}
 use Rattle.std.specs.Io.KnownBytes.{Appends, Consumes, IsAtEnd}
 use Rattle.frame_codec.specs.Trace.{header_1, header_2, version_1}
 use Rattle.frame_codec.specs.declared.trace.TheConstants.{HEADER_2_LENGTH}
@@ -150,17 +150,6 @@ piece_unmade piece was old new = record {
       (migrating_begun input written old h));
 }
 
-pub piece_whole : {A : Type 0} (piece out : List ℕ) (was is : LoggedWriterState) (old new : MigrationState) (done : A) → TakesPiece piece old new out None →
-    Writes was is out → WritesPiece piece was is old new (Ok done)
-piece_whole piece out was is old new done takes w = record {
-  front = out;
-  appends = w.appends;
-  few = w.well;
-  own = tt;
-  goes =
-      λ reader input written h few. takes input written h few;
-}
-
 pub piece_stops : {A : Type 0} (piece out : List ℕ) (was is : LoggedWriterState) (old new : MigrationState) (at : ℕ) → TakesPiece piece old new out (Some at) →
     Writes was is out → WritesPiece {A = A} piece was is old new (Err (faults.Malformed at))
 piece_stops piece out was is old new at takes w = record {
@@ -221,32 +210,6 @@ migrated_all input written m h = elim (cases_lt m.met 8) [
     rest_is = refl;
   }))
 ]
-
-left_short : (input written : List ℕ) (m : MigrationState) → IsMigrating input written m → length (written ++ left_over m) ≤ length input + 16
-left_short input written m h = elim (migrated_all input written m h) [
-  | inl c ↦ omega (arith, ap length c.written_is)
-  | inr w ↦
-      omega (
-        arith,
-        ap length w.written_is,
-        length-append (header_2 version_1) (w.text ++ w.left),
-        header_2_long,
-        ap length w.old.is,
-        length-append header_1 (w.text ++ w.left),
-      )
-]
-
-pub rest_fits : (rest : List ℕ) (m : MigrationState) (sent : ℕ) → IsUnderWay m 0 → rest ≡ left_over m → sent ≡ sent_of m → sent + length rest < 2 ^ 64
-rest_fits rest m sent u is before =
-    omega (
-      arith,
-      left_short u.input u.written m u.is,
-      length-append u.written (left_over m),
-      sent_is u.input u.written m u.is (omega (arith, u.few)),
-      before,
-      ap length is,
-      u.few,
-    )
 
 pub rest_whole : (rest : List ℕ) (was is : LoggedWriterState) (m : MigrationState) (migrated : Migrated) → rest ≡ left_over m → Writes was is rest →
     migrated.records ≡ m.records → migrated.rest ≡ length rest
@@ -312,11 +275,6 @@ few_on A B was now is count more all faults.NoMemory h k same = well_on was now 
 
 piece_fits : (input piece : ℕ) → input + piece ≤ taken_max → input + piece + HEADER_2_LENGTH < 2 ^ 64
 piece_fits input piece few = omega (arith, few)
-
--- a migration may go on
-pub under_way : (was : LoggedWriterState) (m : MigrationState) (is : LoggedWriterState) (input : List ℕ) (more : ℕ) → HasWritten was m is input →
-    length input + more ≤ taken_max → IsUnderWay m more
-under_way was m is input more h few = record { input = input; written = h.written; is = h.migrating; few = piece_fits (length input) more few }
 
 -- some reader
 any_reader : LoggedReaderState
@@ -406,16 +364,4 @@ told_so from to was is input fault consumes sound h = record {
   becomes = h.fails to;
   met = met_own from to fault sound h.is_own;
   writes = h.few;
-}
-
--- there was no memory for a first read
-pub never_read : (reader : LoggedReaderState) (writer : LoggedWriterState) → Migrates reader reader writer writer (Err faults.NoMemory)
-never_read reader writer = record {
-  input = [];
-  written = [];
-  consumes = Consumes-nil reader.remaining;
-  appends = Appends-nil writer.contents;
-  becomes = inl refl;
-  met = refl;
-  writes = record { sound = refl; few = omega arith };
 }
