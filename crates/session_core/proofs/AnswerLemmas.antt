@@ -44,7 +44,7 @@ answers_ring says was_shut always base o ring (standing.Ready (stage.Opening adm
 answers_ring says was_shut always base o ring (standing.Ready (stage.Ready live)) h rest let_through =
     record { answered = (h.talking, all_written base o h.holds rest); said = h.said; let_through = let_through }
 answers_ring says was_shut always base o ring (standing.Waits live) h rest let_through = absurd rest
-answers_ring says was_shut always base o ring (standing.Lost spent) h rest let_through =
+answers_ring says was_shut always base o ring (standing.GivenUp spent) h rest let_through =
     record { answered = ((h.is.exited, h.is.cut, h.end_said), all_written base o h.is.holds h.is.sent); said = h.said; let_through = let_through }
 answers_ring says was_shut always base o ring (standing.Over left) h rest let_through = record {
   answered = (
@@ -64,4 +64,4 @@ pub shut_at_its_end : (says : Says) (was_shut : IsShut) (base : Option (List ℕ
 shut_at_its_end says was_shut base taken o (standing.Over left) h = h.shut
 shut_at_its_end says was_shut base taken o (standing.Ready at) h = tt
 shut_at_its_end says was_shut base taken o (standing.Waits live) h = tt
-shut_at_its_end says was_shut base taken o (standing.Lost spent) h = tt
+shut_at_its_end says was_shut base taken o (standing.GivenUp spent) h = tt

@@ -691,8 +691,8 @@ ahead_off : (input : List ℕ) (base : Option (List ℕ)) (o : OutputState) (spe
 ahead_off input base o spent h = record { requests = h.requests; later = h.behind ++ h.back ∷ h.later; begins = h.begins; is = h.is }
 
 rests_cut : (input : List ℕ) (base : Option (List ℕ)) (source : LoggedReaderState) (pushes : PushState) (o : OutputState) (spent : SeatState)
-    (cause : LeaveCause) → LeavesOff base input o (over.Lost spent cause) → IsUnfailed source (over.Lost spent cause) →
-    IsMet source pushes (over.Lost spent cause)
+    (cause : LeaveCause) → LeavesOff base input o (over.GivenUp spent cause) → IsUnfailed source (over.GivenUp spent cause) →
+    IsMet source pushes (over.GivenUp spent cause)
     → RestsRead input base source pushes o (Ok spent) cause
 rests_cut input base source pushes o spent why.Closed h unfailed met = record {
   holds = h.0.is.holds;
@@ -738,7 +738,7 @@ rests_cut input base source pushes o spent why.Ahead h unfailed met = record {
 }
 
 exited_cut : (input : List ℕ) (base : Option (List ℕ)) (o : OutputState) (spent : SeatState) (cause : LeaveCause) →
-    LeavesOff base input o (over.Lost spent cause) → HasExited spent o.answers
+    LeavesOff base input o (over.GivenUp spent cause) → HasExited spent o.answers
 exited_cut input base o spent why.Closed h = h.0.is.exited
 exited_cut input base o spent why.ReadFault h = h.0.is.exited
 exited_cut input base o spent why.Malformed h = h.0.is.exited
@@ -746,24 +746,24 @@ exited_cut input base o spent why.RunFull h = absurd h
 exited_cut input base o spent why.NoMemory h = h.is.exited
 exited_cut input base o spent why.Ahead h = h.is.exited
 
-lost_here : (old new : OutputState) (spent : SeatState) (cause : LeaveCause) (wanted : End) →
-    Here old new (over.Lost spent cause) (record { seat = Ok spent; end = wanted; last = None })
-lost_here old new spent cause wanted Given Ends admits base (inl k) = absurd k.is
-lost_here old new spent cause wanted Given Ends admits base (inr k) = absurd k
+given_up_here : (old new : OutputState) (spent : SeatState) (cause : LeaveCause) (wanted : End) →
+    Here old new (over.GivenUp spent cause) (record { seat = Ok spent; end = wanted; last = None })
+given_up_here old new spent cause wanted Given Ends admits base (inl k) = absurd k.is
+given_up_here old new spent cause wanted Given Ends admits base (inr k) = absurd k
 
-lost_off : (old new : OutputState) (spent : SeatState) (cause : LeaveCause) (wanted : End) → SendsLast old new cause wanted →
-    Off old new (over.Lost spent cause) (record { seat = Ok spent; end = wanted; last = None })
-lost_off old new spent cause wanted sent base input source pushes off unfailed met =
+given_up_off : (old new : OutputState) (spent : SeatState) (cause : LeaveCause) (wanted : End) → SendsLast old new cause wanted →
+    Off old new (over.GivenUp spent cause) (record { seat = Ok spent; end = wanted; last = None })
+given_up_off old new spent cause wanted sent base input source pushes off unfailed met =
     spent_so (Begins input) (EndsFor input (Some source) pushes) base new spent wanted
     (sends (Begins input) (EndsFor input (Some source) pushes) (of_bytes input (Some source) pushes) base old new (Ok spent) cause wanted
     (rests_cut input base source pushes old spent cause off unfailed met) sent)
     (exited_seat (Begins input) old new cause wanted spent sent (exited_cut input base old spent cause off))
 
-pub lost : (old new : OutputState) (spent : SeatState) (cause : LeaveCause) (wanted : End) → SendsLast old new cause wanted →
-    LeavesAll old new (over.Lost spent cause) (record { seat = Ok spent; end = wanted; last = None })
-lost old new spent cause wanted sent =
-    both old new (over.Lost spent cause) (record { seat = Ok spent; end = wanted; last = None }) (lost_here old new spent cause wanted)
-    (lost_off old new spent cause wanted sent)
+pub given_up : (old new : OutputState) (spent : SeatState) (cause : LeaveCause) (wanted : End) → SendsLast old new cause wanted →
+    LeavesAll old new (over.GivenUp spent cause) (record { seat = Ok spent; end = wanted; last = None })
+given_up old new spent cause wanted sent =
+    both old new (over.GivenUp spent cause) (record { seat = Ok spent; end = wanted; last = None }) (given_up_here old new spent cause wanted)
+    (given_up_off old new spent cause wanted sent)
 
 ended_rests : (Given : Giving) (Ends : Reasons) → Admits Given Ends → (base : Option (List ℕ)) (o : OutputState) (seat : Result SeatState (Unit {0}))
     (spent : SeatState) (cause : LeaveCause) (handled : List Request) (next : Request) (later : List Request) → Given (handled ++ next ∷ later)

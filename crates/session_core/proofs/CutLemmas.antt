@@ -268,7 +268,7 @@ given_up says base input source o (over.Refused seat) left requests may (inl (in
 given_up says base input source o (over.Refused seat) left requests may (inl (inl h)) said keeps cut =
     absurd (not_cut (h.handled ++ h.next ∷ []) requests o.answers h.is.2 cut)
 given_up says base input source o (over.Refused seat) left requests may (inr off) said keeps cut = absurd off.0
-given_up says base input source o (over.Lost seat cause) left requests may is said keeps cut =
+given_up says base input source o (over.GivenUp seat cause) left requests may is said keeps cut =
     subst (λ (s : Option SeatState). SeatSaid says.ended s ended_why.Lost) (sym (ap result_ok keeps)) said.0
 given_up says base input source o (over.Ended seat cause) left requests may is said keeps cut = absurd (ended_unread says.ended seat cause may said)
 given_up says base input source o (over.Foreign seat) left requests may is said keeps cut = absurd may

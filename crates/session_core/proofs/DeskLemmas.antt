@@ -19,7 +19,7 @@ use Rattle.session_core.specs.Proved.Turns.{IsTalking, HasReceipts, TakesUp, Tur
 use Rattle.session_core.specs.Talk.{Converses}
 use Rattle.session_core.specs.Refusals.{AreSaid, RefusalSaid}
 use Rattle.session_core.specs.Proved.Saying.{IsReadingEnd, OverSaid, TurnSaid}
-use Rattle.session_core.specs.Proved.Desk.{HasLeft, IsAtRest, IsEnding, IsLostIn, IsOverAfter, IsReady, IsRingOf, IsShut, IsWaitingIn, LeftBy, SentIfReady, StandsThere, TurnStands}
+use Rattle.session_core.specs.Proved.Desk.{HasLeft, IsAtRest, IsEnding, IsGivenUpIn, IsOverAfter, IsReady, IsRingOf, IsShut, IsWaitingIn, LeftBy, SentIfReady, StandsThere, TurnStands}
 use Rattle.session_core.specs.Answering.{TakingEnd}
 use Rattle.session_core.proofs.CallLemmas.{converses, has_receipts}
 use Rattle.session_core.proofs.OutputLemmas.{holds_fresh}
@@ -44,7 +44,7 @@ turned : (says : Says) (base : Option (List ℕ)) (handled : List Request) (next
 turned says base handled next o (standing.Ready at) by refusals said = record { holds = by.0; talking = by.1; said = refusals }
 turned says base handled next o (standing.Waits seat) by refusals said =
     record { handled = handled; call = by.0; taken_are = ap (λ (r : Request). handled ++ r ∷ []) by.1; waits = by.2; said = refusals }
-turned says base handled next o (standing.Lost seat) by refusals said = record { is = by; said = refusals; end_said = said }
+turned says base handled next o (standing.GivenUp seat) by refusals said = record { is = by; said = refusals; end_said = said }
 turned says base handled next o (standing.Over found) by refusals said =
     record { is = inl (record { handled = handled; next = next; taken_are = refl; is = by }); said = refusals; over_said = said }
 
@@ -99,7 +99,7 @@ has_left says was_shut base taken old new found left is leaves shut =
 pub at_rest : (o : OutputState) (at : Standing) → ((seat : SeatState) → at ≡ standing.Waits seat → ⊥) → SentIfReady o at → IsAtRest o at
 at_rest o (standing.Ready at) waits sent = sent
 at_rest o (standing.Waits seat) waits sent = absurd (waits seat refl)
-at_rest o (standing.Lost seat) waits sent = tt
+at_rest o (standing.GivenUp seat) waits sent = tt
 at_rest o (standing.Over left) waits sent = tt
 
 -- a session at which nothing was taken up
@@ -157,11 +157,11 @@ ends_after_all says base taken rest sent cause at old new left e none ready read
 -- the last that was taken is given up
 pub ends_given_up : (says : Says) (base : Option (List ℕ)) (taken rest sent : List Request) (cause : LeaveCause) (seat : SeatState) (old new : OutputState)
     (left : LeftSession)
-    → taken ++ rest ≡ sent → IsLostIn says base taken old seat → IsReadingEnd cause
-    → (OverSaid says (over.Lost seat cause) → LeftBy says old (over.Lost seat cause) new left) → IsEnding says base sent cause new left
+    → taken ++ rest ≡ sent → IsGivenUpIn says base taken old seat → IsReadingEnd cause
+    → (OverSaid says (over.GivenUp seat cause) → LeftBy says old (over.GivenUp seat cause) new left) → IsEnding says base sent cause new left
 ends_given_up says base taken rest sent cause seat old new left e lost reading leaves = record {
   old = old;
-  found = over.Lost seat cause;
+  found = over.GivenUp seat cause;
   ends = inr (inr (record { taken = taken; later = rest; seat = seat; sent_are = sym e; found_is = refl; is = lost.is }));
   said = subst (λ (l : List Request). AreSaid (RefusalSaid says l) old.answers) e (wider says taken rest old.answers lost.said);
   left_by = leaves (lost.end_said, reading);

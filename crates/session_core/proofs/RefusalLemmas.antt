@@ -151,7 +151,7 @@ ended_refused says base handled call seat spent ended_why.NoMemory old new (stan
     end_put says base handled call seat spent old new refusal.NoMemory why tells.0 (ends, said) w are
 ended_refused says base handled call seat spent ended_why.RunFull old new (standing.Over (over.Ended held why)) tells ends said w are =
     end_put says base handled call seat spent old new refusal.RunFull why tells.0 (ends, said) w are
-ended_refused says base handled call seat spent ended_why.Lost old new (standing.Lost held) tells ends said w are =
+ended_refused says base handled call seat spent ended_why.Lost old new (standing.GivenUp held) tells ends said w are =
     same_said (RefusalSaid says (handled ++ request.Call call ∷ [])) old new tells.0 are
 ended_refused says base handled call seat spent ended_why.Foreign old new (standing.Over (over.Foreign held)) tells ends said w are =
     same_said (RefusalSaid says (handled ++ request.Call call ∷ [])) old new tells.0 are

@@ -56,7 +56,7 @@ given_up_said says spent ended_why.NoMemory old new (standing.Over (over.Ended s
     (same_spent says.ended seat spent ended_why.NoMemory tells.1 said)
 given_up_said says spent ended_why.RunFull old new (standing.Over (over.Ended seat why)) tells said = full_said says.ended seat old new why tells.0
     (same_spent says.ended seat spent ended_why.RunFull tells.1 said)
-given_up_said says spent ended_why.Lost old new (standing.Lost seat) tells said = same_spent says.ended seat spent ended_why.Lost tells.1 said
+given_up_said says spent ended_why.Lost old new (standing.GivenUp seat) tells said = same_spent says.ended seat spent ended_why.Lost tells.1 said
 given_up_said says spent ended_why.Foreign old new (standing.Over (over.Foreign seat)) tells said =
     same_spent says.ended seat spent ended_why.Foreign tells.1 said
 given_up_said says spent reason old new found tells said = absurd tells
@@ -103,10 +103,10 @@ reading_end says seat why.RunFull said = absurd said
 reading_end says seat why.NoMemory said = tt
 reading_end says seat why.Ahead said = tt
 
-pub lost_said : (says : Says) (old new : OutputState) (is : Over) (seat : SeatState) (why : LeaveCause) (found : End) → is ≡ over.Lost seat why →
+pub over_given_up_said : (says : Says) (old new : OutputState) (is : Over) (seat : SeatState) (why : LeaveCause) (found : End) → is ≡ over.GivenUp seat why →
     SendsLast old new why found → OverSaid says is
     → EndSaid says (Some seat) found
-lost_said says old new is seat why found same sends said =
+over_given_up_said says old new is seat why found same sends said =
     sent_end says (Some seat) old new why found sends (reading_end says (Some seat) why (subst (OverSaid says) same said).1)
 
 pub closed_said : (says : Says) (seat : Option SeatState) (old new : OutputState) (found : End) → SendsLast old new why.Closed found → EndSaid says seat found

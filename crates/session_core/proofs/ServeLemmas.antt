@@ -141,7 +141,7 @@ met_at_one base handled next o source pushes (over.Leaves at why.RunFull) h = tt
 met_at_one base handled next o source pushes (over.Leaves at why.NoMemory) h = tt
 met_at_one base handled next o source pushes (over.Leaves at why.Ahead) h = absurd h
 met_at_one base handled next o source pushes (over.Unwritten at) h = tt
-met_at_one base handled next o source pushes (over.Lost seat cause) h = absurd h
+met_at_one base handled next o source pushes (over.GivenUp seat cause) h = absurd h
 met_at_one base handled next o source pushes other h = tt
 
 early_at : (base : Option (List ℕ)) (Given : List Request → Type 0) (taken handled later : List Request) (next : Request) (o : OutputState) (found : Over) →
@@ -254,7 +254,7 @@ cut_off_at found capacity base input all taken later o seat h split is =
 after_cut : (found : PumpEnd) (capacity : ℕ) (base : Option (List ℕ)) (input : List ℕ) (all taken later : List Request) (o : OutputState)
     (source : LoggedReaderState) (pushes : PushState) (seat : SeatState) → REQUESTS_AHEAD ≤ capacity → PushedBy capacity input [] all found
     → PumpMet source found → pushes.in_a_row ≡ back_at found → all ≡ taken ++ later → IsGivenUp base taken o seat →
-    IsOver base input source o (over.Lost seat (why_of found)) × IsMet source pushes (over.Lost seat (why_of found))
+    IsOver base input source o (over.GivenUp seat (why_of found)) × IsMet source pushes (over.GivenUp seat (why_of found))
 after_cut pump_end.Closed capacity base input all taken later o source pushes seat room h met back split is =
     (inr ((cut_off_at pump_end.Closed capacity base input all taken later o seat h split is, record { requests = h.requests; read = h.read }), met.1), met.0)
 after_cut pump_end.ReadFault capacity base input all taken later o source pushes seat room h met back split is =

@@ -120,7 +120,7 @@ fn answered_by<W: Write, G: Gate, L: Run>(
         Standing::Ready(Stage::Opening(admission)) => (AnsweredSeat::None(admission), None, None),
         Standing::Ready(Stage::Ready(seat)) => (AnsweredSeat::Live(seat), None, None),
         Standing::Waits(seat) => (AnsweredSeat::Live(seat), None, None),
-        Standing::Lost(seat) => (AnsweredSeat::Spent(seat), None, None),
+        Standing::GivenUp(seat) => (AnsweredSeat::Spent(seat), None, None),
         Standing::Over(left) => (seat_of(left.seat), Some(left.end), left.last),
     };
     let (answers, writer) = output.into_parts(last);

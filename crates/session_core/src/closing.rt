@@ -161,7 +161,7 @@ pub(crate) fn close_session<Rt: Wait, W: Write, G: Gate, L: Run, K: KernelOf<L>>
             let end = send_last(output, LeaveCause::Closed);
             left_by((seat, end), None)
         }
-        Over::Lost { seat, why } => {
+        Over::GivenUp { seat, why } => {
             let end = send_last(output, why);
             left_by((seat, end), None)
         }

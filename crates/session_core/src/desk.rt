@@ -108,7 +108,7 @@ fn stand<Rt: Wait, W: Write + Connection, G: Gate, L: Run, K: KernelOf<L>>(
     match turn {
         Standing::Ready(stage) => Standing::Ready(stage),
         Standing::Waits(seat) => Standing::Waits(seat),
-        Standing::Lost(seat) => Standing::Lost(seat),
+        Standing::GivenUp(seat) => Standing::GivenUp(seat),
         Standing::Over(over) => Standing::Over(close_and_shut(rt, output, kernel, front, over)),
     }
 }
@@ -244,7 +244,7 @@ pub(crate) fn tell_lost<Rt: Wait, L: Run, K: KernelOf<L>>(
     ensures { IsToldOf K.marks process result }
 {
     match process {
-        Some(process) => Some(kernel.lost(rt, process)),
+        Some(process) => Some(kernel.mark_lost(rt, process)),
         None => None,
     }
 }
@@ -330,12 +330,12 @@ pub(crate) fn answer_rest<Rt: Wait, W: Write + Connection, G: Gate, L: Run, K: K
                 after
             }
             Standing::Waits(seat) => wait_on(rt, kernel, front, output, seat),
-            Standing::Lost(seat) => return close_and_shut(
+            Standing::GivenUp(seat) => return close_and_shut(
                 rt,
                 output,
                 kernel,
                 front,
-                Over::Lost { seat, why },
+                Over::GivenUp { seat, why },
             ),
             Standing::Over(left) => return left,
         };
@@ -361,7 +361,7 @@ fn attended_by<L: Run>(standing: &StandingOf<L>) -> Attended
     match standing {
         Standing::Ready(_) => Attended::Ready,
         Standing::Waits(_) => Attended::Waits,
-        Standing::Lost(_) | Standing::Over(_) => Attended::Left,
+        Standing::GivenUp(_) | Standing::Over(_) => Attended::Left,
     }
 }
 

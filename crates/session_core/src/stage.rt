@@ -41,7 +41,7 @@ pub(crate) enum Over<S, P, A> {
     /// Its opening was refused in the record, and that was answered.
     Refused(P),
     /// The kernel gave up the call that its process waited in, and has recorded its exit. It leaves off for what ended its reads.
-    Lost { seat: P, why: LeaveCause },
+    GivenUp { seat: P, why: LeaveCause },
     /// The process has ended in the call that it waited in, since memory ran out or the run was full. That was answered, unless memory ran
     /// out for the answer.
     Ended { seat: P, why: LeaveCause },
@@ -85,7 +85,7 @@ pub(crate) enum Standing<S, P, A, O> {
     Waits(S),
     /// The kernel gave up the call that the process waited in, and has recorded its exit. No request is taken up any more. How the session
     /// ends is known when no more is read.
-    Lost(P),
+    GivenUp(P),
     /// It is over.
     Over(O),
 }

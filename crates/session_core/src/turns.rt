@@ -124,7 +124,7 @@ fn end_given_up<W: Write, G: Gate, L: Run>(
             seat,
             why: put_given_up(output, Refusal::RunFull),
         }),
-        Why::Lost => Standing::Lost(seat),
+        Why::Lost => Standing::GivenUp(seat),
         Why::Foreign => Standing::Over(Over::Foreign(seat)),
         Why::HungUp => unreachable!(),
     }

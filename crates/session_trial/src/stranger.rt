@@ -130,7 +130,7 @@ impl<L: Run> Kernel<RunSeat<Unlimited<L>>, SpentRunSeat<Unlimited<L>>, Front<Unl
         }
     }
 
-    fn lost<R: Wait>(&self, _rt: &R, process: u32) -> Marked {
+    fn mark_lost<R: Wait>(&self, _rt: &R, process: u32) -> Marked {
         Marked::needless(process)
     }
 }

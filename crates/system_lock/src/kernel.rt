@@ -127,7 +127,7 @@ pub trait Kernel<S: AsSeat, P: AsSeat, F: AsFront> {
         ensures grows { Grows (F.as_front front.old) (F.as_front front.new) }
         ensures refused { Since (F.as_front front.new) (λ h. IfErr result (λ refusal. (says h).refused (S.as_seat seat.old) call refusal)) };
 
-    /// Waits until the call that the seat's process waits in can go on, and takes it up; or ends the process. Where `lost` tells that
+    /// Waits until the call that the seat's process waits in can go on, and takes it up; or ends the process. Where `mark_lost` tells that
     /// its connection is lost, a call that is not ready is waited for no longer: the process ends for `Why::Lost`.
     fn finish<R: Wait>(&self, rt: &R, front: &mut F, seat: S) -> Finished<S, P>
         ensures finishes { FinishesAs S.as_seat P.as_seat (S.as_seat seat) result }
@@ -142,7 +142,7 @@ pub trait Kernel<S: AsSeat, P: AsSeat, F: AsFront> {
 
     /// Tells that the connection of a process is lost: a call that it waits in, now or later, is given up where it is not ready. Nothing
     /// is recorded here. It takes no memory, and waits for the lock alone. What it gives shows that this was told.
-    fn lost<R: Wait>(&self, rt: &R, process: u32) -> Marked
+    fn mark_lost<R: Wait>(&self, rt: &R, process: u32) -> Marked
         ensures { marks result process };
 }
 

@@ -124,7 +124,7 @@ impl<L: Run> Kernel<RunSeat<L>, SpentRunSeat<L>, Front<L>> for SystemLock<L> {
         let mut seat = seat;
         let mut system = self.system.lock(rt);
         for _ in rt.forever() {
-            let tried = seat.take_up(rt, self.alloc, &self.bells, &mut system);
+            let tried = seat.try_resume(rt, self.alloc, &self.bells, &mut system);
             front.catch_up(system.front());
             seat = match tried {
                 Tried::Resumed { seat, receipt } => return Finished::Resumed { seat, receipt },
@@ -148,9 +148,9 @@ impl<L: Run> Kernel<RunSeat<L>, SpentRunSeat<L>, Front<L>> for SystemLock<L> {
         ended
     }
 
-    fn lost<R: Wait>(&self, rt: &R, process: u32) -> Marked {
+    fn mark_lost<R: Wait>(&self, rt: &R, process: u32) -> Marked {
         let mut system = self.system.lock(rt);
-        system.give_up(&self.bells, process)
+        system.mark_lost(&self.bells, process)
     }
 }
 

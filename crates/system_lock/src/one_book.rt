@@ -196,7 +196,7 @@ impl<L: Run> Kernel<RunSeat<Unlimited<L>>, SpentRunSeat<Unlimited<L>>, Front<Unl
     }
 
     /// It does nothing: a call that would wait is given up whether its connection is lost or not.
-    fn lost<R: Wait>(&self, _rt: &R, process: u32) -> Marked {
+    fn mark_lost<R: Wait>(&self, _rt: &R, process: u32) -> Marked {
         Marked::needless(process)
     }
 }

@@ -107,7 +107,7 @@ impl<L: Run> RunSeat<L> {
 
     /// Takes up the call that the process waits in, in a system. Where it is not ready, the process sleeps from now on; but where its
     /// connection is lost, its exit is recorded.
-    pub(crate) fn take_up<Rt: Wait>(
+    pub(crate) fn try_resume<Rt: Wait>(
         self,
         rt: &Rt,
         alloc: Global,
@@ -122,7 +122,7 @@ impl<L: Run> RunSeat<L> {
     {
         system.has_all_of(rt, &self.front);
         let InRun { seat, front } = self;
-        match system.take_up(rt, alloc, bells, seat) {
+        match system.try_resume(rt, alloc, bells, seat) {
             Tried::Resumed { seat, receipt } => {
                 let front = system.front().again();
                 Tried::Resumed {

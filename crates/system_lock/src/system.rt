@@ -239,7 +239,7 @@ impl<L: Run> System<L> {
     }
 
     /// Puts a process to sleep whose call waits on this pipe; if its connection is lost, records its exit instead.
-    fn wait_on<Rt: Wait>(
+    fn sleep_unless_lost<Rt: Wait>(
         &mut self,
         rt: &Rt,
         bells: &Bells,
@@ -267,7 +267,7 @@ impl<L: Run> System<L> {
 
     /// Takes up the call that a process waits in. Where it is not ready, the process sleeps from now on; but where its connection is lost,
     /// its exit is recorded. That it sleeps takes no memory.
-    pub(crate) fn take_up<Rt: Wait>(
+    pub(crate) fn try_resume<Rt: Wait>(
         &mut self,
         rt: &Rt,
         alloc: Global,
@@ -289,7 +289,7 @@ impl<L: Run> System<L> {
         let process = seat.pid();
         let pipe = pipe_waited(self.book.machine(), process);
         match acts::resume(&mut self.book, alloc, seat) {
-            Tried::Still(seat) => self.wait_on(rt, bells, seat, pipe),
+            Tried::Still(seat) => self.sleep_unless_lost(rt, bells, seat, pipe),
             Tried::Resumed { seat, receipt } => {
                 self.past.add(rt, receipt.record());
                 let stirred = Stirred::at(process, pipe);
@@ -341,13 +341,13 @@ impl<L: Run> System<L> {
     }
 
     /// Marks a process as lost, if it is live and not marked yet, and wakes it if it sleeps. It takes no memory.
-    pub(crate) fn give_up(&mut self, bells: &Bells, process: u32) -> Marked
+    pub(crate) fn mark_lost(&mut self, bells: &Bells, process: u32) -> Marked
         ensures book { self.new.book_is ≡ self.old.book_is }
         ensures marked { is_live_in self.old.book_is process ≡ true → is_among self.new.lost_are process ≡ true }
         ensures lost { self.new.lost_are ≡ lost_with self.old.book_is self.old.lost_are process }
         ensures asleep { self.new.asleep_are ≡ asleep_without self.old.book_is self.old.lost_are self.old.asleep_are process }
         ensures its { result ≡ marked_by_watch process }
     {
-        self.watch.give_up(&self.book, bells, process)
+        self.watch.mark_lost(&self.book, bells, process)
     }
 }

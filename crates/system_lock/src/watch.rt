@@ -116,7 +116,7 @@ impl Watch {
     }
 
     /// Marks a process as lost, unless it has ended or is marked, and wakes it if it sleeps. It takes no memory.
-    pub(crate) fn give_up<L: Ledgers>(
+    pub(crate) fn mark_lost<L: Ledgers>(
         &mut self,
         book: &Book<L>,
         bells: &Bells,

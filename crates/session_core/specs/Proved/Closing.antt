@@ -89,7 +89,7 @@ MayClose (over.OpeningUntold seat) = ⊥
 MayClose (over.RefusalUntold seat) = ⊥
 MayClose (over.Untold seat receipt) = ⊥
 MayClose (over.Refused seat) = Unit {0}
-MayClose (over.Lost seat cause) = Unit {0}
+MayClose (over.GivenUp seat cause) = Unit {0}
 MayClose (over.Ended seat cause) = IsOfReads cause
 MayClose (over.Foreign seat) = ⊥
 
@@ -123,6 +123,6 @@ KeepsSeat (over.OpeningUntold seat) left = HangsUpSeat seat left
 KeepsSeat (over.RefusalUntold seat) left = left.seat ≡ Ok seat
 KeepsSeat (over.Untold seat receipt) left = HangsUpSeat seat left
 KeepsSeat (over.Refused seat) left = left.seat ≡ Ok seat
-KeepsSeat (over.Lost seat why) left = left.seat ≡ Ok seat
+KeepsSeat (over.GivenUp seat why) left = left.seat ≡ Ok seat
 KeepsSeat (over.Ended seat why) left = left.seat ≡ Ok seat
 KeepsSeat (over.Foreign seat) left = left.seat ≡ Ok seat

@@ -57,7 +57,7 @@ pub record IsWaitingIn (says : Says) (base : Option (List ℕ)) (taken : List Re
   pub said : AreSaid (RefusalSaid says taken) o.answers
 
 -- the last of these is a call that waited, and that the kernel gave up
-pub record IsLostIn (says : Says) (base : Option (List ℕ)) (taken : List Request) (o : OutputState) (seat : SeatState) : Type 0 where
+pub record IsGivenUpIn (says : Says) (base : Option (List ℕ)) (taken : List Request) (o : OutputState) (seat : SeatState) : Type 0 where
   pub is : IsGivenUp base taken o seat
   pub said : AreSaid (RefusalSaid says taken) o.answers
   pub end_said : SaidEnded says.ended seat ended_why.Lost
@@ -70,7 +70,7 @@ StandingIn O = StandingOf SeatState SeatState (Unit {0}) O
 abbrev pub StandsIn : {O : Type 0} → (O → Type 0) → Says → Option (List ℕ) → List Request → OutputState → StandingIn O → Type 0
 StandsIn Ends says base taken o (standing.Ready at) = IsReady says base taken o at
 StandsIn Ends says base taken o (standing.Waits seat) = IsWaitingIn says base taken o seat
-StandsIn Ends says base taken o (standing.Lost seat) = IsLostIn says base taken o seat
+StandsIn Ends says base taken o (standing.GivenUp seat) = IsGivenUpIn says base taken o seat
 StandsIn Ends says base taken o (standing.Over found) = Ends found
 
 -- ---- right after a turn
@@ -142,7 +142,7 @@ StandsThere front says was_shut base taken o (Some standing) = Since front (λ h
 abbrev pub attended_by : Standing → Attended
 attended_by (standing.Ready at) = attended.Ready
 attended_by (standing.Waits seat) = attended.Waits
-attended_by (standing.Lost seat) = attended.Left
+attended_by (standing.GivenUp seat) = attended.Left
 attended_by (standing.Over left) = attended.Left
 
 -- where a session stands after a turn
@@ -188,7 +188,7 @@ pub record EndsGivenUp (base : Option (List ℕ)) (sent : List Request) (cause :
   pub later : List Request
   pub seat : SeatState
   pub sent_are : sent ≡ taken ++ later
-  pub found_is : found ≡ over.Lost seat cause
+  pub found_is : found ≡ over.GivenUp seat cause
   pub is : IsGivenUp base taken o seat
 
 abbrev pub EndsAs : Option (List ℕ) → List Request → LeaveCause → OutputState → Over → Type 0

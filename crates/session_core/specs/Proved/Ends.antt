@@ -102,17 +102,17 @@ LeavesOff base input o (over.Leaves at why.ReadFault) = IsAnswered base input o 
 LeavesOff base input o (over.Leaves at why.Malformed) = IsMalformed base input o at
 LeavesOff base input o (over.Leaves at why.NoMemory) = IsUnread base input o at
 LeavesOff base input o (over.Leaves at why.Ahead) = IsAhead base input o at
-LeavesOff base input o (over.Lost seat why.Closed) = IsCutOff base input o seat × HasNoFault input
-LeavesOff base input o (over.Lost seat why.ReadFault) = IsCutOff base input o seat × HasNoFault input
-LeavesOff base input o (over.Lost seat why.Malformed) = IsCutOff base input o seat × HasFault input
-LeavesOff base input o (over.Lost seat why.NoMemory) = IsCutOff base input o seat
-LeavesOff base input o (over.Lost seat why.Ahead) = IsCutAhead base input o seat
+LeavesOff base input o (over.GivenUp seat why.Closed) = IsCutOff base input o seat × HasNoFault input
+LeavesOff base input o (over.GivenUp seat why.ReadFault) = IsCutOff base input o seat × HasNoFault input
+LeavesOff base input o (over.GivenUp seat why.Malformed) = IsCutOff base input o seat × HasFault input
+LeavesOff base input o (over.GivenUp seat why.NoMemory) = IsCutOff base input o seat
+LeavesOff base input o (over.GivenUp seat why.Ahead) = IsCutAhead base input o seat
 LeavesOff base input o other = ⊥
 
 -- no read has failed, where a read fault is not what ends the session
 abbrev pub IsUnfailed : LoggedReaderState → Over → Type 0
 IsUnfailed source (over.Leaves at why.ReadFault) = Unit {0}
-IsUnfailed source (over.Lost seat why.ReadFault) = Unit {0}
+IsUnfailed source (over.GivenUp seat why.ReadFault) = Unit {0}
 IsUnfailed source other = source.log.failed ≡ false
 
 -- a session that is over: at one of its requests, or when no more is read
@@ -124,7 +124,7 @@ abbrev pub IsMet : LoggedReaderState → PushState → Over → Type 0
 IsMet source pushes (over.Leaves at why.Closed) = IsAtEnd source.remaining
 IsMet source pushes (over.Leaves at why.ReadFault) = IsReadNoMore READS_MAX source.log
 IsMet source pushes (over.Leaves at why.Ahead) = pushes.in_a_row ≡ 2
-IsMet source pushes (over.Lost seat why.Closed) = IsAtEnd source.remaining
-IsMet source pushes (over.Lost seat why.ReadFault) = IsReadNoMore READS_MAX source.log
-IsMet source pushes (over.Lost seat why.Ahead) = pushes.in_a_row ≡ 2
+IsMet source pushes (over.GivenUp seat why.Closed) = IsAtEnd source.remaining
+IsMet source pushes (over.GivenUp seat why.ReadFault) = IsReadNoMore READS_MAX source.log
+IsMet source pushes (over.GivenUp seat why.Ahead) = pushes.in_a_row ≡ 2
 IsMet source pushes other = Unit {0}

@@ -20,7 +20,7 @@ abbrev pub seat_at : Standing → AnsweredSeat
 seat_at (standing.Ready (stage.Opening admission)) = seat.None admission
 seat_at (standing.Ready (stage.Ready live)) = seat.Live live
 seat_at (standing.Waits live) = seat.Live live
-seat_at (standing.Lost spent) = seat.Spent spent
+seat_at (standing.GivenUp spent) = seat.Spent spent
 seat_at (standing.Over left) = seat_of left.seat
 
 abbrev pub end_at : Standing → Option End

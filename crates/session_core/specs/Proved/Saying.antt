@@ -44,7 +44,7 @@ OverSaid says (over.OpeningUntold seat) = Unit {0}
 OverSaid says (over.RefusalUntold seat) = Unit {0}
 OverSaid says (over.Untold seat receipt) = Unit {0}
 OverSaid says (over.Refused seat) = Unit {0}
-OverSaid says (over.Lost seat why) = SaidEnded says.ended seat ended_why.Lost × IsReadingEnd why
+OverSaid says (over.GivenUp seat why) = SaidEnded says.ended seat ended_why.Lost × IsReadingEnd why
 OverSaid says (over.Ended seat why) = CauseEndedSaid says.ended seat why
 OverSaid says (over.Foreign seat) = SaidEnded says.ended seat ended_why.Foreign
 
@@ -52,5 +52,5 @@ OverSaid says (over.Foreign seat) = SaidEnded says.ended seat ended_why.Foreign
 abbrev pub TurnSaid : Says → Turn → Type 0
 TurnSaid says (standing.Ready at) = Unit {0}
 TurnSaid says (standing.Waits seat) = Unit {0}
-TurnSaid says (standing.Lost seat) = SaidEnded says.ended seat ended_why.Lost
+TurnSaid says (standing.GivenUp seat) = SaidEnded says.ended seat ended_why.Lost
 TurnSaid says (standing.Over over) = OverSaid says over

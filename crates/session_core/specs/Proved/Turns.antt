@@ -90,7 +90,7 @@ OverBy base handled next o (over.RefusalUntold seat) = (receipt : Receipted) × 
     receipt.record_is.outcome
 OverBy base handled next o (over.Untold seat receipt) = IsUntold base (handled ++ next ∷ []) o seat.receipts receipt
 OverBy base handled next o (over.Refused seat) = Holds base o × IsRefusedOpening seat o.answers × Talked (handled ++ next ∷ []) o.answers
-OverBy base handled next o (over.Lost seat why) = ⊥
+OverBy base handled next o (over.GivenUp seat why) = ⊥
 OverBy base handled next o (over.Ended seat why) = EndedBy base (handled ++ next ∷ []) o seat why
 OverBy base handled next o (over.Foreign seat) = Holds base o × (seat.receipts ≡ receipts_of o.answers) × IsCut
     (handled ++ next ∷ []) o.answers None × IsGranted seat.receipts
@@ -117,7 +117,7 @@ pub record IsGivenUp (base : Option (List ℕ)) (requests : List Request) (o : O
 abbrev pub TurnBy : Option (List ℕ) → List Request → Request → OutputState → Turn → Type 0
 TurnBy base handled next o (standing.Ready stage) = Holds base o × IsTalking (handled ++ next ∷ []) o.answers stage
 TurnBy base handled next o (standing.Waits seat) = WaitsIn base handled next o seat
-TurnBy base handled next o (standing.Lost seat) = IsGivenUp base (handled ++ next ∷ []) o seat
+TurnBy base handled next o (standing.GivenUp seat) = IsGivenUp base (handled ++ next ∷ []) o seat
 TurnBy base handled next o (standing.Over over) = OverBy base handled next o over
 
 -- a request is taken up
@@ -156,7 +156,7 @@ GivesUp ended old new found =
 abbrev pub TellsWhy : SeatState → Why → OutputState → OutputState → Turn → Type 0
 TellsWhy spent ended_why.NoMemory old new (standing.Over (over.Ended seat why)) = PutsGivenUp old new refusal.NoMemory why × (seat ≡ spent)
 TellsWhy spent ended_why.RunFull old new (standing.Over (over.Ended seat why)) = PutsGivenUp old new refusal.RunFull why × (seat ≡ spent)
-TellsWhy spent ended_why.Lost old new (standing.Lost seat) = (new ≡ old) × (seat ≡ spent)
+TellsWhy spent ended_why.Lost old new (standing.GivenUp seat) = (new ≡ old) × (seat ≡ spent)
 TellsWhy spent ended_why.Foreign old new (standing.Over (over.Foreign seat)) = (new ≡ old) × (seat ≡ spent)
 TellsWhy spent other old new found = ⊥
 

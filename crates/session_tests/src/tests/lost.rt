@@ -144,8 +144,8 @@ fn is_given_up<L: Run>(finished: FinishedIn<L>) -> bool {
 /// Whether a call is given up whose process is lost twice before it would sleep.
 fn is_given_up_awake<Rt: Wait, L: Run>(rt: &Rt, kernel: &SystemLock<L>) -> Result<bool, Fail> {
     let seat = waiting(rt, kernel)?;
-    kernel.lost(rt, seat.pid());
-    kernel.lost(rt, seat.pid());
+    kernel.mark_lost(rt, seat.pid());
+    kernel.mark_lost(rt, seat.pid());
     Ok(is_given_up(kernel.finish(rt, &mut kernel.front(rt), seat)))
 }
 
@@ -202,7 +202,7 @@ fn child_writes<Rt: Wait, L: Run>(
 ) -> Result<(), Fail> {
     let bytes = Payload::copied(alloc, b"x")?;
     let mut child = attached(rt, kernel)?;
-    kernel.lost(rt, parent);
+    kernel.mark_lost(rt, parent);
     if is_recorded(rt, kernel, &mut child, Call::Write { fd: 1, bytes }) {
         Ok(())
     } else {
@@ -294,7 +294,7 @@ fn wakes_a_sleeper<
     match Builder::new().spawn(&rt, finishing) {
         Ok(sleeper) => {
             stand_aside();
-            kernel.lost(&rt, process);
+            kernel.mark_lost(&rt, process);
             Ok(sleeper.join(&rt))
         }
         Err(_) => Err("a thread can be started")?,

@@ -2,7 +2,7 @@ use Rattle.std.proofs.Common.{ℕ, None, Some, sym, subst}
 use Rattle.session_core.specs.declared.end.End.TheVariants as end
 use Rattle.session_core.specs.declared.stage.LeaveCause.TheVariants as why
 use Rattle.session_core.specs.Proved.Closing.{LeavesWith, MayClose}
-use Rattle.session_core.proofs.SaidLemmas.{keeps_left, leaves_said, ended_said, closed_said, foreign_said, lost_said}
+use Rattle.session_core.proofs.SaidLemmas.{keeps_left, leaves_said, ended_said, closed_said, foreign_said, over_given_up_said}
 use Rattle.session_core.proofs.CutLemmas.{hung_up_closes, leaves_closes, seat_closes, unwritten_closes}
 use Rattle.session_core.proofs.ClosingLemmas as laws
 use Rattle.session_core.proofs.closing.close_session.Goals as goal
@@ -32,10 +32,11 @@ returns-in-Refused-clause-all g c =
     let sent = c.send_last-end-in-Refused in
     rw (c.in-Refused.is, c.left_by-in-Refused.ensures) (laws.refused c.args.output.now sent.new.output c.in-Refused.seat sent.result sent.ensures)
 
-pub returns-in-Lost-clause-all : goal.returns-in-Lost-clause-all
-returns-in-Lost-clause-all g c =
-    let sent = c.send_last-end-in-Lost in
-    rw (c.in-Lost.is, c.left_by-in-Lost.ensures) (laws.lost c.args.output.now sent.new.output c.in-Lost.seat c.in-Lost.why sent.result sent.ensures)
+pub returns-in-GivenUp-clause-all : goal.returns-in-GivenUp-clause-all
+returns-in-GivenUp-clause-all g c =
+    let sent = c.send_last-end-in-GivenUp in
+    rw (c.in-GivenUp.is, c.left_by-in-GivenUp.ensures)
+    (laws.given_up c.args.output.now sent.new.output c.in-GivenUp.seat c.in-GivenUp.why sent.result sent.ensures)
 
 pub returns-in-Ended-clause-all : goal.returns-in-Ended-clause-all
 returns-in-Ended-clause-all g c =
@@ -57,10 +58,10 @@ pub returns-in-Refused-clause-said : goal.returns-in-Refused-clause-said
 returns-in-Refused-clause-said g c h p = λ said. rw c.left_by-in-Refused.ensures
     (closed_said (g.K.Kernel.says h) (Some c.in-Refused.seat) _ _ c.send_last-end-in-Refused.result c.send_last-end-in-Refused.ensures)
 
-pub returns-in-Lost-clause-said : goal.returns-in-Lost-clause-said
-returns-in-Lost-clause-said g c h p = λ said. rw c.left_by-in-Lost.ensures
-    (lost_said (g.K.Kernel.says h) _ _ c.args.over c.in-Lost.seat c.in-Lost.why c.send_last-end-in-Lost.result c.in-Lost.is c.send_last-end-in-Lost.ensures
-    said)
+pub returns-in-GivenUp-clause-said : goal.returns-in-GivenUp-clause-said
+returns-in-GivenUp-clause-said g c h p = λ said. rw c.left_by-in-GivenUp.ensures
+    (over_given_up_said (g.K.Kernel.says h) _ _ c.args.over c.in-GivenUp.seat c.in-GivenUp.why c.send_last-end-in-GivenUp.result
+    c.in-GivenUp.is c.send_last-end-in-GivenUp.ensures said)
 
 pub returns-in-Ended-clause-said : goal.returns-in-Ended-clause-said
 returns-in-Ended-clause-said g c h p = λ said. rw c.left_by-in-Ended.ensures
@@ -102,11 +103,11 @@ returns-in-Refused-clause-closes g c =
     c.left_by-in-Refused.result (λ closed. subst MayClose (sym c.in-Refused.is) tt)
     c.send_last-end-in-Refused.ensures c.left_by-in-Refused.ensures
 
-pub returns-in-Lost-clause-closes : goal.returns-in-Lost-clause-closes
-returns-in-Lost-clause-closes g c =
-    seat_closes c.args.over c.args.output.now c.send_last-end-in-Lost.new.output c.in-Lost.why c.in-Lost.seat c.send_last-end-in-Lost.result
-    c.left_by-in-Lost.result (λ closed. subst MayClose (sym c.in-Lost.is) tt)
-    c.send_last-end-in-Lost.ensures c.left_by-in-Lost.ensures
+pub returns-in-GivenUp-clause-closes : goal.returns-in-GivenUp-clause-closes
+returns-in-GivenUp-clause-closes g c =
+    seat_closes c.args.over c.args.output.now c.send_last-end-in-GivenUp.new.output c.in-GivenUp.why c.in-GivenUp.seat c.send_last-end-in-GivenUp.result
+    c.left_by-in-GivenUp.result (λ closed. subst MayClose (sym c.in-GivenUp.is) tt)
+    c.send_last-end-in-GivenUp.ensures c.left_by-in-GivenUp.ensures
 
 pub returns-in-Ended-clause-closes : goal.returns-in-Ended-clause-closes
 returns-in-Ended-clause-closes g c =
@@ -125,9 +126,9 @@ pub returns-in-Refused-clause-answers : goal.returns-in-Refused-clause-answers
 returns-in-Refused-clause-answers g c = laws.answers_sent c.args.output.now c.send_last-end-in-Refused.new.output why.Closed c.send_last-end-in-Refused.result
     c.send_last-end-in-Refused.ensures
 
-pub returns-in-Lost-clause-answers : goal.returns-in-Lost-clause-answers
-returns-in-Lost-clause-answers g c = laws.answers_sent c.args.output.now c.send_last-end-in-Lost.new.output c.in-Lost.why c.send_last-end-in-Lost.result
-    c.send_last-end-in-Lost.ensures
+pub returns-in-GivenUp-clause-answers : goal.returns-in-GivenUp-clause-answers
+returns-in-GivenUp-clause-answers g c = laws.answers_sent c.args.output.now c.send_last-end-in-GivenUp.new.output c.in-GivenUp.why
+    c.send_last-end-in-GivenUp.result c.send_last-end-in-GivenUp.ensures
 
 pub returns-in-Ended-clause-answers : goal.returns-in-Ended-clause-answers
 returns-in-Ended-clause-answers g c = laws.answers_sent c.args.output.now c.send_last-end-in-Ended.new.output c.in-Ended.why c.send_last-end-in-Ended.result

@@ -16,13 +16,13 @@ returns-then-count-eq0-clause-ends g c h p base is =
       c.close_and_shut.ensures.shut,
     )
 
-pub returns-in-Lost-clause-ends : goal.returns-in-Lost-clause-ends
-returns-in-Lost-clause-ends g c h p base is =
-    let closed = c.close_and_shut-in-Lost.ensures in
+pub returns-in-GivenUp-clause-ends : goal.returns-in-GivenUp-clause-ends
+returns-in-GivenUp-clause-ends g c h p base is =
+    let closed = c.close_and_shut-in-GivenUp.ensures in
     let stood = Stands (g.K.Kernel.says h) g.W.Connection.was_shut base (received c.loop.consumer) c.loop.output in (
       laws.ends_given_up (g.K.Kernel.says h) base (received c.loop.consumer) (known_items c.loop.consumer)
-          (received c.args.consumer.now ++ known_items c.args.consumer.now) c.args.why c.in-Lost.seat c.loop.output c.close_and_shut-in-Lost.new.output
-          c.close_and_shut-in-Lost.result c.loop.invariant.same (subst stood c.in-Lost.is (c.loop.invariant.stands h (closed.grows h p) base is))
+          (received c.args.consumer.now ++ known_items c.args.consumer.now) c.args.why c.in-GivenUp.seat c.loop.output c.close_and_shut-in-GivenUp.new.output
+          c.close_and_shut-in-GivenUp.result c.loop.invariant.same (subst stood c.in-GivenUp.is (c.loop.invariant.stands h (closed.grows h p) base is))
           c.requires.reading (closed.left h p),
       closed.shut,
     )

@@ -8,7 +8,7 @@ use Rattle.run_history.specs.Fronts.{Grows}
 use Rattle.system_lock.specs.System.{SystemState}
 use Rattle.system_lock.specs.declared.acts.Tried.TheVariants as tried
 use Rattle.system_lock.proofs.GrowLaws.{tries_grow}
-use Rattle.system_lock.proofs.system.System.take_up.Goals as goal
+use Rattle.system_lock.proofs.system.System.try_resume.Goals as goal
 
 -- a resume spares all but its own process and those on its pipe
 pub wake_stirred-requires : goal.wake_stirred-requires
@@ -52,7 +52,7 @@ invariant_of-self-in-Ended g c = (
 pub returns-in-Still-clause-grows : goal.returns-in-Still-clause-grows
 returns-in-Still-clause-grows g c h p =
     subst (λ (s : SystemState). IsPrefix s.book_is.history h) c.self.view_is (tries_grow c.self.inside.book c.resume.new.book c.args.seat
-    (tried.Still c.in-Still.seat) c.in-Still.ensures.event h (c.wait_on.ensures.grows h p))
+    (tried.Still c.in-Still.seat) c.in-Still.ensures.event h (c.sleep_unless_lost.ensures.grows h p))
 
 pub returns-in-Ended-clause-grows : goal.returns-in-Ended-clause-grows
 returns-in-Ended-clause-grows g c =

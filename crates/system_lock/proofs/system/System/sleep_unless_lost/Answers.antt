@@ -3,7 +3,7 @@ use Rattle.system_lock.specs.System.{SystemState}
 use Rattle.system_lock.specs.Proved.Sleeping.{with_one}
 use Rattle.system_lock.specs.Proved.Events.{still_asleep, still_lost}
 use Rattle.system_lock.proofs.WatchLaws as laws
-use Rattle.system_lock.proofs.system.System.wait_on.Goals as goal
+use Rattle.system_lock.proofs.system.System.sleep_unless_lost.Goals as goal
 
 -- none of those that sleep is woken, and none of those that are lost has ended
 pub returns-clause-asleep : goal.returns-clause-asleep

@@ -2,7 +2,7 @@ use Rattle.std.proofs.Common.{◌≡◌, ◌∙◌, true, false, arith, sym}
 use Rattle.system_lock.specs.System.{is_among, is_live_in}
 use Rattle.system_lock.specs.Proved.Sleepers.{pipe_in}
 use Rattle.system_lock.proofs.WatchLaws as laws
-use Rattle.system_lock.proofs.watch.Watch.give_up.Goals as goal
+use Rattle.system_lock.proofs.watch.Watch.mark_lost.Goals as goal
 
 -- those that are lost are live, and so is one more, so there is room
 pub mark-requires : goal.mark-requires
