@@ -655,7 +655,8 @@ def mistake(program: str, words: Sequence[str], part: str, folder: str) -> None:
 
 
 # What is said of a path at which something is: perhaps a socket that a server has left.
-TAKEN = "something is there already; a socket at which no server listens any more may be removed: "
+TAKEN = "something is there already, be it the file of --trace; "
+TAKEN += "a socket at which no server listens any more may be removed: "
 TAKEN += f"{os.strerror(errno.EADDRINUSE)} (os error {errno.EADDRINUSE})"
 
 

@@ -84,7 +84,7 @@ impl fmt::Display for Causes {
                 },
             ) if error.kind() == io::ErrorKind::AddrInUse => write!(
                 f,
-                "{path}: something is there already; a socket at which no server listens any more may be removed: {error}\n"
+                "{path}: something is there already, be it the file of --trace; a socket at which no server listens any more may be removed: {error}\n"
             ),
             Some(
                 Cause {

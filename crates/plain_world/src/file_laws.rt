@@ -71,8 +71,8 @@ pub fn other_files_stay()
     ensures { OwnFileAlone }
 {}
 
-/// Only open, write, pwrite, ftruncate, mkfifo, link and unlink may change a file or a name, so no seek past the end
-/// makes a file longer. Only open, read, write, pipe and resume may change a pipe. Sweeps are another matter.
+/// Only open, write, pwrite, ftruncate, mkfifo, link, unlink and rename may change a file or a name, so no seek past the
+/// end makes a file longer. Only open, read, write, pipe and resume may change a pipe. Sweeps are another matter.
 pub fn contents_stay()
     ensures files { FilesStay }
     ensures pipes { PipesStay }

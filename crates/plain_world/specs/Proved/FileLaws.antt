@@ -193,8 +193,8 @@ pub record SameFiles (w v : World) : Type 0 where
   pub files : v.files ≡ w.files
   pub names : v.names ≡ w.names
 
--- an open, a write, a pwrite, an ftruncate, a mkfifo, a link and an unlink may change them; every other call leaves all of them:
--- a seek past the end neither makes a file longer nor changes a byte (their pages)
+-- an open, a write, a pwrite, an ftruncate, a mkfifo, a link, an unlink and a rename may change them; every other call leaves all of
+-- them: a seek past the end neither makes a file longer nor changes a byte (their pages)
 abbrev pub FilesStay : Type 0
 FilesStay = (bounds : Bounds) (w : World) (process : ℕ) (c : Call) → may_change_files (act.Call c) ≡ false → SameFiles w (before_sweep bounds w process c)
 
