@@ -154,7 +154,7 @@ pub(crate) fn keep_exit(exits: &mut Numbered<Prepared>, prepared: Option<Prepare
 }
 
 /// Ends a process by its prepared record, and returns the receipt.
-fn end_process(
+fn end_by_prepared(
     progress: &mut Progress,
     history: &mut History,
     exits: &mut Numbered<Prepared>,
@@ -189,7 +189,7 @@ impl Journal {
         ensures few { result.place + 1 < 2 ^ 64 }
     {
         self.progress.has_reserve();
-        end_process(
+        end_by_prepared(
             &mut self.progress,
             &mut self.history,
             &mut self.exits,
@@ -203,7 +203,7 @@ impl Journal {
         requires is_open { (world_now self.old).closed ≡ false }
         ensures { IsOrphansExit self.old self.new process }
     {
-        let receipt = end_process(
+        let receipt = end_by_prepared(
             &mut self.progress,
             &mut self.history,
             &mut self.exits,
