@@ -1,23 +1,10 @@
 -- A piece that is taken until the first frame is complete.
-use Rattle.std.proofs.Common.{◌≡◌, ℕ, ◌+◌, ◌≤◌, List, ◌++◌, length, take, drop, sym, ap, subst, ◌∙◌, append_assoc, arith, inl, inr}
+use Rattle.std.proofs.Common.{◌≡◌, ℕ, ◌+◌, ◌≤◌, List, ◌++◌, length, take, drop, sym, ap, ◌∙◌, append_assoc, arith, inl, inr}
 use Rattle.std.specs.Int.{w32, from_be_bytes}
 use Rattle.std.proofs.Math.Seq.{take-add}
 use Rattle.std.proofs.lemmas.List.{length-append, length-drop, take-append-le}
-use Rattle.frame_codec.specs.Frames.{told_length, IsShort}
+use Rattle.frame_codec.specs.Frames.{told_length}
 use Rattle.frame_codec.specs.Proved.Filling.{FillsHead, Fills, Completes}
-
--- the head is told, so what tells it is not yet a frame
-pub still_short : (most : ℕ) (old mid piece : List ℕ) (first : ℕ) → IsShort most old → FillsHead old mid piece first → 4 ≤ length mid →
-    length mid ≤ 4 + told_length mid
-still_short most old mid piece first short head le =
-    elim head.few [
-      | inl few ↦ omega arith
-      | inr same ↦
-          elim short [
-            | inl none ↦ omega (arith, ap length same)
-            | inr there ↦ subst (λ (bytes : List ℕ). length bytes ≤ 4 + told_length bytes) (sym same) (omega (arith, there.2))
-          ]
-    ]
 
 -- the head, and then the rest of the frame
 pub completes : (most : ℕ) (old mid new piece : List ℕ) (first second : ℕ) → FillsHead old mid piece first → 4 ≤ length mid → told_length mid ≤ most

@@ -39,10 +39,6 @@ more_frames Spells most takes bytes old now used value len h k =
     subst (λ (text : List ℕ). AreFrames Spells most (h.values ++ value ∷ []) text) (sym (take-add used len bytes))
     (one_more Spells most h.values value (take used bytes) (take len (drop used bytes)) h.frames k.first)
 
-pub none_read : {A T : Type 0} (Spells : A → List ℕ → Type 0) (most : ℕ) (takes : T → T → A → Bool → Type 0) (bytes : List ℕ) (old : T) →
-    ReadSoFar Spells most takes bytes old old 0
-none_read Spells most takes bytes old = record { values = []; within = omega arith; frames = refl; taken = refl }
-
 pub next_read : {A T : Type 0} (Spells : A → List ℕ → Type 0) (most : ℕ) (takes : T → T → A → Bool → Type 0) (bytes : List ℕ) (old now new : T) (used : ℕ)
     (value : A) (len : ℕ)
     → ReadSoFar Spells most takes bytes old now used → IsWhole Spells most value len (drop used bytes) → takes now new value true →

@@ -219,10 +219,3 @@ payload_takes {A} text Fits read r payload value h e =
     let w = whole_takes s.0.0 value s.0.1 s.2 in
     let t = r.takes payload s.0 h s.1 in
     (subst Fits w.0 t.fits, t.parts ∙ ap (λ (bs : List ℕ). text s.0.0 ++ bs) w.1 ∙ append-nil (text s.0.0) ∙ ap text w.0)
-
--- no value's bytes begin those of another
-pub one_form : {A : Type 0} (text : A → List ℕ) (Fits : A → Type 0) (read : Reading A) → Reads text Fits read
-    → (a b : A) (x y : List ℕ) → Fits a → Fits b → text a ++ x ≡ text b ++ y → (a ≡ b) × (x ≡ y)
-one_form {A} text Fits read r a b x y h k e =
-    let same : (a, x) ≡ (b, y) = some_is (a, x) (b, y) (sym (r.again a x h) ∙ ap read e ∙ r.again b y k) in
-    (ap (λ (p : A × List ℕ). p.0) same, ap (λ (p : A × List ℕ). p.1) same)

@@ -28,9 +28,6 @@ inside_first (c ∷ d ∷ cs) = either (eqb c 92) (escaped d) (itself c) cs (d �
 pub inside_is : (bytes : List ℕ) (x : ℕ × List ℕ) → first_inside bytes ≡ Some x → inside bytes ≡ (x.0 ∷ (inside x.1).0, (inside x.1).1)
 inside_is bytes x h = inside_first bytes ∙ ap (λ (o : Option (ℕ × List ℕ)). from_one inside o bytes) h
 
-pub inside_ends : (bytes : List ℕ) → first_inside bytes ≡ None → inside bytes ≡ ([], bytes)
-inside_ends bytes h = inside_first bytes ∙ ap (λ (o : Option (ℕ × List ℕ)). from_one inside o bytes) h
-
 -- the same of pairs of digits
 paired_first : (bytes : List ℕ) → paired bytes ≡ from_one paired (first_paired bytes) bytes
 paired_first [] = refl
@@ -39,9 +36,6 @@ paired_first (c ∷ d ∷ cs) = same_one paired (text_of (hex_digit c) (hex_digi
 
 pub paired_is : (bytes : List ℕ) (x : ℕ × List ℕ) → first_paired bytes ≡ Some x → paired bytes ≡ (x.0 ∷ (paired x.1).0, (paired x.1).1)
 paired_is bytes x h = paired_first bytes ∙ ap (λ (o : Option (ℕ × List ℕ)). from_one paired o bytes) h
-
-pub paired_ends : (bytes : List ℕ) → first_paired bytes ≡ None → paired bytes ≡ ([], bytes)
-paired_ends bytes h = paired_first bytes ∙ ap (λ (o : Option (ℕ × List ℕ)). from_one paired o bytes) h
 
 -- one byte more is written
 pub byte_on : (f : ℕ → List ℕ) (old new bytes rest total : List ℕ) (byte : ℕ) → bytes ≡ byte ∷ rest → new ≡ old ++ f byte
