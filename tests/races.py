@@ -409,6 +409,9 @@ PIPED = [
     "6 7 p1 attach = ok",
     "8 9 p0 write 1 61*1000 = 1000",
 ]
+# Two pipes, of each of which the other process has the last end of one kind.
+TWO_PIPES = [*PIPED[:2], "3 3 p0 pipe = 2 3", "4 4 p0 setfl 2 r,nonblock = ok", *PIPED[2:4], "8 9 p0 close 0 = ok"]
+TWO_PIPES += ["10 11 p0 close 3 = ok"]
 SHARED = [
     "0 1 p0 join = 0",
     "2 3 p0 open f rw,creat = 0",
@@ -491,7 +494,14 @@ def reason_cases() -> Iterator[Case]:
     yield "a larger pipe", partial(has_reason, PIPED, large, "200 300 p1 fork = 2", "room of a pipe (own)")
     torn = "100 900 p0 write 1 61*600 = 600", "200 300 p1 read 0 100 = 61*100\n400 500 p1 read 0 600 = 61*400"
     yield "a write in parts", partial(has_reason, PIPED[:-1], *torn, "a write of more than 512 bytes in parts (own)")
-    yield "a small one in parts", partial(has_reason, PIPED[:-1], *(it.replace("61*600 = 600", "61*512 = 512") for it in torn), None)
+    small, seen = torn[0].replace("600 = 600", "512 = 512"), torn[1]
+    yield "a small one in parts", partial(has_reason, PIPED[:-1], small, seen, "a small write goes in by parts (own)")
+    over = small.replace("100 900", "100 150")
+    yield "a small one in parts that is over", partial(has_reason, PIPED[:-1], over, seen, None)
+    ends = "100 900 p1 exit = ok", "200 210 p0 write 1 x61 = error EPIPE\n300 310 p0 read 2 1 = error EAGAIN"
+    yield "an exit by closes", partial(has_reason, TWO_PIPES, *ends, "an exit closes its descriptors one by one (own)")
+    over = ends[0].replace("900", "250")
+    yield "an exit by closes that is over", partial(has_reason, TWO_PIPES, over, ends[1], None)
     for text, reason in OWN_OF_PIPES:
         first, second = text.split("; ")
         yield f"{first} and {second}", partial(has_reason, PIPED[:-1], first, second, reason)

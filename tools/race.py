@@ -260,6 +260,8 @@ REASONS: list[Reason | WayReason] = [
     WayReason("nonblock set while a write waits (own)", "pages of fcntl and write", ordering.by_unblocked),
     WayReason("more than 65,536 bytes in a call (own)", "pages of read and write", ordering.by_transfer),
     WayReason("how reads of a pipe at once share its bytes (own)", "page of read", ordering.by_shares),
+    WayReason("an exit closes its descriptors one by one (own)", "page of _exit", ordering.by_exits),
+    WayReason("a small write goes in by parts (own)", "page of write", ordering.by_small_parts),
     WayReason("a FIFO opened for both (own)", "page of open", by_both_ways),
 ]
 

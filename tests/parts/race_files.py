@@ -124,6 +124,7 @@ APPENDS = ["10 30 p0 write 0 x62 = 1", "12 20 p1 pwrite 0 0 x6161 = 2"]
 FOUR = "15 16 p0 write 1 x61626364 = 4"
 READ_FIRST = ["20 40 p0 read 0 1 = x61", "30 90 p1 write 1 x61 = 1"]
 SHARES = "how reads of a pipe at once share its bytes (own) (page of read)"
+SEEN = ["20 50 p0 write 1 61*400 = 400", "22 24 p1 read 0 400 = 61*200", "30 60 p1 read 0 400 = 61*200"]
 CHOICES = [
     (JOINS, JOINED, ["20 30 p0 open a r,trunc = 1", "21 31 p1 open b rw,creat = 0"], 0, FLAGS),
     (ENDS, SETUP, ["20 30 p0 fstat 0 = pipe 0 1", "21 31 p1 getfl 0 = 1"], 0, STAT),
@@ -152,6 +153,9 @@ CHOICES = [
     (ENDS, SETUP, [FOUR, "20 40 p0 read 0 2 = x6163", "21 41 p1 read 0 2 = x6264"], 0, SHARES),
     (ENDS, SETUP, [FOUR, "20 40 p0 read 0 2 = x6163", "41 42 p1 read 0 2 = x6264"], 1, BARE),
     (ENDS, SETUP, [FOUR, "20 40 p0 read 0 2 = x6163", "21 41 p1 read 0 2 = x6265"], 1, BARE),
+    # a small write that is seen in part, and one that is over
+    (ENDS, SETUP, SEEN, 0, "a small write goes in by parts (own) (page of write)"),
+    (ENDS, SETUP, [SEEN[0].replace("50", "21"), *SEEN[1:]], 1, BARE),
     # a write that is not woken has nothing to do with room
     (ENDS, SETUP, ["20 - p0 write 1 61*600 = parked ?", "30 31 p1 read 0 600 = 61*600"], 1, BARE),
     # a read that is not woken has nothing to do with appending
