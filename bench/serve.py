@@ -11,7 +11,8 @@ shorter. A run of sleepers is held against one without, and a long run against o
 and in memory. At last a server with an idle client tells how much of a processor it takes.
 
 With OLD, another fdref is put under the same load in turns with PATH, and what it does is told too: it
-may be one that writes no trace.
+may be one that writes no trace. Every second round has the turns the other way round. How many times as
+fast PATH is, is the median of what each round says, since a machine's own pace moves from round to round.
 """
 
 import argparse
@@ -144,10 +145,18 @@ class Bench:
             raise SystemExit(f"the load printed {done.stdout!r}")
         return float(told[1])
 
+    def rates(self, *measures: Callable[[], float]) -> list[tuple[float, ...]]:
+        """What each measure tells in each round. They take turns, every second time the other way round."""
+        rounds: list[list[float]] = []
+        for number in range(self.rounds):
+            order = measures if number % 2 == 0 else measures[::-1]
+            told = [measure() for measure in order]
+            rounds.append(told if number % 2 == 0 else told[::-1])
+        return list(zip(*rounds, strict=True))
+
     def in_turns(self, *measures: Callable[[], float]) -> list[float]:
         """The medians of measures that take turns."""
-        rounds = [[measure() for measure in measures] for _ in range(self.rounds)]
-        return [statistics.median(rates) for rates in zip(*rounds, strict=True)]
+        return [statistics.median(rates) for rates in self.rates(*measures)]
 
     def count(self, requests: int) -> int:
         """How many requests are made in place of so many."""
@@ -170,9 +179,12 @@ def cost(bench: Bench, program: str) -> str:
     return f"{statistics.median(bench.costs[program]) * 1e6:.2f} us of a processor"
 
 
-def beside(old: Sequence[float], new: float) -> str:
-    """What the other fdref does, if there is one, and how many times as fast the new one is."""
-    return f"; the other {old[0]:.0f}, times {new / old[0]:.2f}" if old else ""
+def beside(old: Sequence[Sequence[float]], new: Sequence[float]) -> str:
+    """What the other fdref does, if there is one, and how many times as fast the new one is in a round."""
+    if not old:
+        return ""
+    times = statistics.median(now / before for now, before in zip(new, old[0], strict=True))
+    return f"; the other {statistics.median(old[0]):.0f}, times {times:.3f}"
 
 
 def measure(bench: Bench, program: str, others: Sequence[str]) -> None:
@@ -181,10 +193,11 @@ def measure(bench: Bench, program: str, others: Sequence[str]) -> None:
         load = (mode, connections, depth, bench.count(requests))
         fdrefs = [partial(bench.fdref, it, *load) for it in (program, *others)]
         bench.costs.clear()
-        echo, fdref, *old = bench.in_turns(partial(bench.echo, *load), *fdrefs)
+        echoes, rates, *old = bench.rates(partial(bench.echo, *load), *fdrefs)
+        fdref, echo = statistics.median(rates), statistics.median(echoes)
         ratio = f"ratio {fdref / echo:.2f}{aim(wanted)}"
         costs = ", ".join(cost(bench, it) for it in (program, *others))
-        print(f"{what}: fdref {fdref:.0f} a second, echo {echo:.0f}, {ratio}{beside(old, fdref)}; {costs}", flush=True)
+        print(f"{what}: fdref {fdref:.0f} a second, echo {echo:.0f}, {ratio}{beside(old, rates)}; {costs}", flush=True)
     calls = bench.count(100_000)
     many, none = bench.in_turns(
         *(partial(bench.fdref, program, "sleepers", count, 1, calls) for count in (SLEEPERS, 0))
