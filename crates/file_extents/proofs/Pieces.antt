@@ -1,5 +1,5 @@
 -- The bytes of a chunk whose first zeros are not stored.
-use Rattle.std.proofs.Common.{◌≡◌, ℕ, ◌+◌, ◌-◌, ◌≤◌, ◌<◌, min, ◌∙◌, List, ◌++◌, length, get_or, drop, replicate, ap, sym, arith, length-append, length-take, append_assoc, append-nil, inl, inr}
+use Rattle.std.proofs.Common.{◌≡◌, ℕ, ◌+◌, ◌-◌, ◌≤◌, ◌<◌, min, ◌∙◌, List, ◌++◌, length, get_or, drop, replicate, ap, sym, arith, length-append, length-take, append_assoc, inl, inr}
 use Rattle.std.proofs.lemmas.Bool.{cases_lt}
 use Rattle.std.proofs.lemmas.List.{ext_get_or, get_or-take, get_or-drop, get_or_append_left, get_or-append_right, length-replicate}
 use Rattle.posix_model.specs.Bytes.{splice, bytes_at}
@@ -99,11 +99,3 @@ pub appended : (o : List ℕ) (low s n : ℕ) (b : List ℕ) (z rest : ℕ) (par
 appended o low s n b z rest part zs is_part is_rest =
     ap (λ xs. xs ++ replicate rest 0) (append_assoc o (replicate z 0) part) ∙ (append_assoc o (replicate z 0 ++ part) (replicate rest 0) ∙
     ap (λ xs. o ++ xs) (stored_window low s n b z rest part zs is_part is_rest))
-
--- a part of what is stored, if it is as long as was asked
-pub stored_part : (low s n : ℕ) (b part : List ℕ) → low ≤ s → part ≡ bytes_at b (s - low) n → n ≤ length part → part ≡ window (replicate low 0 ++ b) s n
-stored_part low s n b part le is_part full = sym (append-nil part) ∙ stored_window low s n b 0 0 part (omega (arith, le))
-    (is_part ∙ ap (bytes_at b (s - low)) whole) (omega (arith, full))
-  where
-    whole : n ≡ n - 0
-    whole = omega arith

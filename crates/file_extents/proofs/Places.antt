@@ -6,7 +6,7 @@ use Rattle.std.proofs.Math.Seq.{take-nil}
 use Rattle.std.proofs.lemmas.List.FromFn.{length-map-range_with_len, get_or-map-range_with_len}
 use Rattle.posix_model.specs.Bytes.{padded_to, splice, bytes_at}
 use Rattle.file_extents.specs.ChunkTable.{ChunkState}
-use Rattle.file_extents.specs.Proved.Chunks.{KeepsPlaces, Keeps, Edits, Cuts, window}
+use Rattle.file_extents.specs.Proved.Chunks.{KeepsPlaces, Edits, Cuts, window}
 use Rattle.file_extents.specs.ExtentsState.{byte_of, bytes_from, contents}
 use Rattle.file_extents.specs.Proved.Contents.{over, ZeroFrom, IsOver}
 use Rattle.file_extents.proofs.Over.{over_below, over_from, over_past, over_same, over_over, padded_place, length_splice, splice_place}
@@ -103,17 +103,6 @@ two_parts s m new F G H le first second = record {
   room = λ k. places_both (F k) (G k) (H k) (first.room k) (second.room k);
 }
 
--- all stays
-pub kept_byte : (F G : ℕ → ChunkState) (p : ℕ) → Keeps F G → byte_of G p ≡ byte_of F p
-kept_byte F G p keeps = (keeps.bytes (p / 65536)).byte (p % 65536)
-
-pub kept_contents : (len : ℕ) (F G : ℕ → ChunkState) → Keeps F G → contents len G ≡ contents len F
-kept_contents len F G keeps = is_contents len G (contents len F) (length_contents len F) (λ i below. contents_within len F i below ∙
-    sym (kept_byte F G i keeps))
-
-pub kept_zero : (len : ℕ) (F G : ℕ → ChunkState) → Keeps F G → ZeroFrom len F → ZeroFrom len G
-kept_zero len F G keeps zeros = record { zero = λ p past. kept_byte F G p keeps ∙ zeros.zero p past }
-
 -- a copy of each chunk
 pub copied_contents : (len : ℕ) (F G : ℕ → ChunkState) → ((k : ℕ) → (G k).bytes ≡ (F k).bytes) → contents len G ≡ contents len F
 copied_contents len F G same = is_contents len G (contents len F) (length_contents len F)
@@ -145,19 +134,10 @@ cut_contents old len F G cuts less = is_contents len G (take len (contents old F
 pub cut_zero : (len : ℕ) (F G : ℕ → ChunkState) → Cuts (len / 65536) (len % 65536) F G → ZeroFrom len G
 cut_zero len F G cuts = record { zero = λ p past. cut_after len F G p cuts past }
 
--- no memory for zeros at the end
-pub extended : (len more : ℕ) (F : ℕ → ChunkState) → ZeroFrom len F → len ≤ more → contents more F ≡ padded_to (contents len F) more
-extended len more F zeros le = is_contents more F (padded_to (contents len F) more)
-    (omega (arith, length-append {A = ℕ}, length-replicate {A = ℕ}, length_contents len F))
-    (λ i below. padded_place (contents len F) (more - length (contents len F)) i ∙ contents_place len F i zeros)
-
 pub extended_max : (len most more : ℕ) (F : ℕ → ChunkState) → ZeroFrom len F → most ≡ more + (len - more) → contents most F ≡ padded_to (contents len F) more
 extended_max len most more F zeros is = is_contents most F (padded_to (contents len F) more)
     (omega (arith, is, length-append {A = ℕ}, length-replicate {A = ℕ}, length_contents len F))
     (λ i below. padded_place (contents len F) (more - length (contents len F)) i ∙ contents_place len F i zeros)
-
-pub extended_zero : (len more : ℕ) (F : ℕ → ChunkState) → ZeroFrom len F → len ≤ more → ZeroFrom more F
-extended_zero len more F zeros le = record { zero = λ p past. zeros.zero p (omega arith) }
 
 -- a read
 pub length_window : (b : List ℕ) (s n : ℕ) → length (window b s n) ≡ n
@@ -220,13 +200,6 @@ read_is F len s n from count start many = ext_get_or 0 (bytes_from F from count)
         get_or-take n (drop s (contents len F)) i 0 (omega (arith, many, within)) ∙
         (get_or-drop s (contents len F) i 0 ∙ contents_within len F (s + i) (omega (arith, many, within, same))) in
         get_or-map-range_with_len (byte_of F) from count i (s + i) 0 within (omega (arith, same)) ∙ sym read
-
--- in the first chunk a position is a place
-pub first_is_over : (s : ℕ) (new : List ℕ) (F G : ℕ → ChunkState) → 0 < length new → s + length new ≤ 65536 → Edits s new 0 F G → IsOver s new F G
-first_is_over s new F G some fits edits =
-    let place : s % 65536 ≡ s = omega arith in
-    let chunk : s / 65536 ≡ 0 = omega arith in
-    edit_is_over s new F G (omega (arith, place, fits)) (rw (place, chunk) edits)
 
 -- the bytes after the first m
 pub behind_all : (m : ℕ) (new : List ℕ) → length new ≤ 65536 → take 65536 (drop m new) ≡ drop m new

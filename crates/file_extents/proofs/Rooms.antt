@@ -47,24 +47,3 @@ room_joined t s m n le first second = record {
   low = λ p from below. elim (cases_lt p (s + m)) [ inl front ↦ first.low p from front | inr behind ↦ second.low p behind (omega (arith, below, le)) ];
   high = λ p from below. elim (cases_lt p (s + m)) [ inl front ↦ first.high p from front | inr behind ↦ second.high p behind (omega (arith, below, le)) ];
 }
-
--- in the first chunk a position is a place
-pub first_room_there : (t : TableState) (s n : ℕ) → HasRoom t s n → 0 < n → s + n ≤ 65536 → HasPlaces (chunk_at t 0) s (s + n)
-first_room_there t s n has some fits =
-    let place : s % 65536 ≡ s = omega arith in
-    let chunk : s / 65536 ≡ 0 = omega arith in
-    let there : HasPlaces (chunk_at t (s / 65536)) (s % 65536) (s % 65536 + n) = room_there t s n has some (omega (arith, place, fits)) in
-    rw (place, chunk) at there
-
-pub first_room_made : (t : TableState) (s n : ℕ) → s + n ≤ 65536 → HasPlaces (chunk_at t 0) s (s + n) → HasRoom t s n
-first_room_made t s n fits made = record { low = low; high = high }
-  where
-    low : (p : ℕ) → s ≤ p → p < s + n → (chunk_at t (p / 65536)).low ≤ p % 65536
-    low p from below =
-        let chunk : p / 65536 ≡ 0 = omega (arith, below, fits) in
-        rw chunk (omega (arith, from, below, fits, made.low))
-
-    high : (p : ℕ) → s ≤ p → p < s + n → p % 65536 < (chunk_at t (p / 65536)).high
-    high p from below =
-        let chunk : p / 65536 ≡ 0 = omega (arith, below, fits) in
-        rw chunk (omega (arith, from, below, fits, made.high))

@@ -51,45 +51,6 @@ fn reserve_across(
     reserve_within(table, alloc, start + here, count - here)
 }
 
-/// Makes room for bytes of the first chunk.
-#[inline(always)]
-#[tactic(auto, using(crate::proofs::Rooms::first_room_made))]
-fn reserve_first(
-    table: &mut Table,
-    alloc: Global,
-    start: usize,
-    count: usize,
-) -> Result<(), AllocError>
-    requires some { 0 < count }
-    requires within { start + count ≤ 65536 }
-    ensures kept { Keeps (chunk_at table.old) (chunk_at table.new) }
-    ensures room { OnOk result (HasRoom table.new start count) }
-    ensures succeeds { HasRoom table.old start count → IsOk result }
-{
-    table.reserve(alloc, 0, start, start + count)
-}
-
-/// Makes room for bytes after the first chunk, or on both sides of its end.
-#[inline(never)]
-fn reserve_far(
-    table: &mut Table,
-    alloc: Global,
-    start: usize,
-    count: usize,
-) -> Result<(), AllocError>
-    requires some { 0 < count }
-    requires few { count ≤ 65536 }
-    requires fits { start + count < 2 ^ 63 }
-    ensures kept { Keeps (chunk_at table.old) (chunk_at table.new) }
-    ensures room { OnOk result (HasRoom table.new start count) }
-    ensures succeeds { HasRoom table.old start count → IsOk result }
-{
-    if start % CHUNK + count <= CHUNK {
-        return reserve_within(table, alloc, start, count);
-    }
-    reserve_across(table, alloc, start, count)
-}
-
 /// Makes room for bytes in at most two chunks.
 #[inline(always)]
 pub(crate) fn reserve(
@@ -107,10 +68,10 @@ pub(crate) fn reserve(
     if count == 0 {
         return Ok(());
     }
-    if start + count <= CHUNK {
-        return reserve_first(table, alloc, start, count);
+    if start % CHUNK + count <= CHUNK {
+        return reserve_within(table, alloc, start, count);
     }
-    reserve_far(table, alloc, start, count)
+    reserve_across(table, alloc, start, count)
 }
 
 /// Writes new bytes within one chunk.
@@ -139,33 +100,6 @@ fn put_across(table: &mut Table, start: usize, new: Span<'_>)
     put_within(table, start + here, new.cut(here, CHUNK));
 }
 
-/// Writes new bytes into the first chunk.
-#[inline(always)]
-fn put_first(table: &mut Table, start: usize, new: Span<'_>)
-    requires some { 0 < length (span_bytes new) }
-    requires within { start + length (span_bytes new) ≤ 65536 }
-    requires room { HasRoom table.old start (length (span_bytes new)) }
-    ensures { IsOver start (span_bytes new.entry) (chunk_at table.old) (chunk_at table.new) }
-{
-    table.write(0, start, new);
-}
-
-/// Writes new bytes after the first chunk, or on both sides of its end.
-#[inline(never)]
-fn put_far(table: &mut Table, start: usize, new: Span<'_>)
-    requires some { 0 < length (span_bytes new) }
-    requires few { length (span_bytes new) ≤ 65536 }
-    requires fits { start + length (span_bytes new) < 2 ^ 63 }
-    requires room { HasRoom table.old start (length (span_bytes new)) }
-    ensures { IsOver start (span_bytes new.entry) (chunk_at table.old) (chunk_at table.new) }
-{
-    if start % CHUNK + new.len() <= CHUNK {
-        put_within(table, start, new);
-        return;
-    }
-    put_across(table, start, new);
-}
-
 /// Writes new bytes in at most two chunks.
 #[inline(always)]
 pub(crate) fn put(table: &mut Table, start: usize, new: Span<'_>)
@@ -178,11 +112,11 @@ pub(crate) fn put(table: &mut Table, start: usize, new: Span<'_>)
     if count == 0 {
         return;
     }
-    if start + count <= CHUNK {
-        put_first(table, start, new);
+    if start % CHUNK + count <= CHUNK {
+        put_within(table, start, new);
         return;
     }
-    put_far(table, start, new);
+    put_across(table, start, new);
 }
 
 /// Bytes where they are, if all of them are stored in one chunk.
