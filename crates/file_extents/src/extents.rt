@@ -1,11 +1,12 @@
 ghost use Rattle.std.specs.Prelude.{◌≡◌, ◌+◌, ◌≤◌, ◌<◌, ◌^◌, [], ◌++◌, length, take, vec_len, vec_capacity, IfOk, IfSome, OnOk, IsOk};
 ghost use Rattle.call_types.specs.Stored.{span_bytes};
-ghost use Rattle.posix_model.specs.Bytes.{splice, bytes_at, padded_to};
+ghost use Rattle.posix_model.specs.Bytes.{splice, bytes_at, padded_to, resized};
 ghost use Rattle.file_extents.specs.Proved.Contents.{HasRoom, KeepsRoom};
 
 use crate::chunk::CHUNK;
 use crate::spread::{append, put, reserve, stored};
 use crate::table::Table;
+use call_types::bounded::Content;
 use call_types::span::Span;
 use std::alloc::{AllocError, Global};
 use std::marker::Model;
@@ -95,6 +96,25 @@ impl Extents {
         }
     }
 
+    /// A copy of at most `count` bytes from `start` on; none at the end or past it (page of read). Bytes that stand in one chunk are copied from where
+    /// they are. An error says that memory ran out.
+    #[inline(always)]
+    pub fn content_at(
+        &self,
+        alloc: Global,
+        start: usize,
+        count: usize,
+    ) -> Result<Content, AllocError>
+        requires { count ≤ 65536 }
+        ensures content { IfOk result (λ content. content ≡ bytes_at self.now.bytes start count) }
+        ensures within { length self.now.bytes < 2 ^ 63 }
+    {
+        match self.stored(start, count) {
+            Some(bytes) => Content::copied(alloc, bytes),
+            None => Content::copied(alloc, self.read_at(start, count)?.as_slice()),
+        }
+    }
+
     /// Makes room for `count` bytes from `start` on. An error says that memory ran out.
     #[inline(always)]
     pub fn reserve_for(&mut self, start: usize, count: usize) -> Result<(), AllocError>
@@ -122,8 +142,17 @@ impl Extents {
         self.len = self.len.max(end);
     }
 
+    /// Gives the file its length, in bytes: its first bytes, and zeros where there were fewer (page of ftruncate). It takes no memory.
+    pub fn set_len(&mut self, len: usize)
+        requires { len < 2 ^ 63 }
+        ensures { self.new.bytes ≡ resized self.old.bytes len }
+    {
+        self.cut(len);
+        self.extend_to(len);
+    }
+
     /// Keeps the first `len` bytes.
-    pub fn cut(&mut self, len: usize)
+    fn cut(&mut self, len: usize)
         ensures { self.new.bytes ≡ take len self.old.bytes }
     {
         if len < self.len {
@@ -133,7 +162,7 @@ impl Extents {
     }
 
     /// Adds zeros, up to so many bytes in all. It takes no memory.
-    pub fn extend_to(&mut self, len: usize)
+    fn extend_to(&mut self, len: usize)
         requires { len < 2 ^ 63 }
         ensures bytes { self.new.bytes ≡ padded_to self.old.bytes len }
         ensures kept { KeepsRoom self.old.table self.new.table }

@@ -1,22 +1,14 @@
-ghost use Rattle.std.specs.Prelude.{◌≡◌, ℕ, ◌+◌, ◌≤◌, ◌<◌, ◌^◌, ◌∷◌, [], ◌++◌, true, is_some, length, IfOk, OnOk, IsOk};
-ghost use Rattle.call_types.specs.declared.limits.TheConstants.{TRANSFER_MAX};
-ghost use Rattle.call_types.specs.Stored.{span_bytes};
+ghost use Rattle.std.specs.Prelude.{◌≡◌, ◌+◌, ◌≤◌, ◌<◌, ◌^◌, ◌∷◌, [], ◌++◌, Some, true, is_some, length, option_copied, OnOk, IsOk};
 ghost use Rattle.slots.specs.Slots.{slot, edited};
 ghost use Rattle.slots.specs.UsedSlots.{value_at, values_in};
 ghost use Rattle.slots.specs.Proved.Uses.{uses_at, used_once, use_added, use_dropped, with_value};
-ghost use Rattle.posix_model.specs.Bytes.{bytes_at, splice, resized};
-ghost use Rattle.posix_model.specs.Descriptors.{file_bytes};
 ghost use Rattle.posix_model.specs.Pipes.{fifo_at};
-ghost use Rattle.posix_model.specs.Proved.Whole.{is_regular_file};
-ghost use Rattle.file_extents.specs.ChunkTable.{TableState};
-ghost use Rattle.file_extents.specs.Proved.Contents.{HasRoom, KeepsRoom};
-ghost use Rattle.file_table.specs.StoredFiles.{file_slots, room_slots};
-ghost use Rattle.file_table.specs.Proved.Files.{edited_bytes, opened_stored, forgetful, openings, named, unnamed, room_at, links_at};
+ghost use Rattle.file_table.specs.StoredFiles.{file_slots};
+ghost use Rattle.file_table.specs.Proved.Files.{extents_at, opened_stored, forgetful, openings, named, unnamed, links_at};
 
 use crate::stored_file::{FileBody, StoredFile};
-use call_types::bounded::Content;
 use call_types::description::Mode;
-use call_types::span::Span;
+use file_extents::extents::Extents;
 use posix_model::world::Fifo;
 use slots::numbered::Numbered;
 use slots::used::Used;
@@ -57,32 +49,14 @@ impl FileTable {
         self.files.next()
     }
 
-    /// The length of a file, in bytes; none of a FIFO, or where it is gone.
-    pub fn length_of(&self, file: usize) -> usize
-        ensures { result ≡ length (file_bytes (slot (file_slots (values_in self.now.0)) file)) }
+    /// The bytes of a regular file, if one stands there.
+    #[inline(always)]
+    pub fn extents(&self, file: usize) -> Option<&Extents>
+        ensures { option_copied result ≡ extents_at (slot self.now.0 file) }
     {
         match self.files.get(file) {
-            Some(used) => used.value.len(),
-            None => 0,
-        }
-    }
-
-    /// A copy of at most `count` bytes of a file from `start` on; none at the end or past it, of a FIFO, or where it is gone (page of read). An error says that
-    /// memory ran out.
-    pub fn read_at(
-        &self,
-        alloc: Global,
-        file: usize,
-        start: usize,
-        count: usize,
-    ) -> Result<Content, AllocError>
-        requires { count ≤ TRANSFER_MAX }
-        ensures content { IfOk result (λ content. content ≡ bytes_at (file_bytes (slot (file_slots (values_in self.now.0)) file)) start count) }
-        ensures within { length (file_bytes (slot (file_slots (values_in self.now.0)) file)) < 2 ^ 63 }
-    {
-        match self.files.get(file) {
-            Some(used) => used.value.read_at(alloc, start, count),
-            None => Ok(Content::empty()),
+            Some(used) => used.value.body.extents(),
+            None => None,
         }
     }
 
@@ -126,45 +100,18 @@ impl FileTable {
         self.files.reserve()
     }
 
-    /// Makes room for `count` bytes of a regular file from `start` on. An error says that memory ran out.
-    pub fn reserve_bytes(
-        &mut self,
-        file: usize,
-        start: usize,
-        count: usize,
-    ) -> Result<(), AllocError>
-        requires there { is_regular_file (slot (file_slots (values_in self.old.0)) file) ≡ true }
-        requires few { count ≤ TRANSFER_MAX }
-        requires fits { start + count < 2 ^ 63 }
-        ensures slots { (room : TableState) × (self.new.0 ≡ edited file (with_value (edited_bytes (λ bytes. bytes) room)) self.old.0) }
-        ensures files { file_slots (values_in self.new.0) ≡ file_slots (values_in self.old.0) }
-        ensures bytes { OnOk result (HasRoom (room_at (room_slots (values_in self.new.0)) file) start count) }
-        ensures kept { (n : ℕ) → KeepsRoom (room_at (room_slots (values_in self.old.0)) n) (room_at (room_slots (values_in self.new.0)) n) }
-        ensures room { self.new.1 ≡ self.old.1 }
-    {
-        self.files.value_mut(file).value.reserve(start, count)
-    }
+    ghost use Rattle.std.specs.Borrow.{sem};
+    ghost use Rattle.file_table.specs.Proved.Lends.{lends_extents};
 
-    /// Writes bytes into a file from the byte `start` on, for which there is room; a gap before them reads as zeros (page of write).
-    pub fn write(&mut self, file: usize, start: usize, new: Span<'_>)
-        requires there { is_some (slot self.old.0 file) ≡ true }
-        requires few { length (span_bytes new) ≤ TRANSFER_MAX }
-        requires fits { start + length (span_bytes new) < 2 ^ 63 }
-        requires room { HasRoom (room_at (room_slots (values_in self.old.0)) file) start (length (span_bytes new)) }
-        ensures slots { (room : TableState) × (self.new.0 ≡ edited file (with_value (edited_bytes (λ bytes. splice bytes start (span_bytes new.entry)) room)) self.old.0) }
-        ensures room { self.new.1 ≡ self.old.1 }
+    /// The bytes of a regular file, to be edited where they stand.
+    #[inline(always)]
+    pub fn extents_mut(&mut self, file: usize) -> &mut Extents
+        requires { is_some (extents_at (slot self.old.0 file)) ≡ true }
+        ensures* writes_back { sem 𝓛 (lends_extents self.entry file result) }
+        ensures value { extents_at (slot self.old.0 file) ≡ Some result.now }
     {
-        self.files.value_mut(file).value.write(start, new);
-    }
-
-    /// Gives a file its length, in bytes: its first bytes, and zeros where there were fewer (page of ftruncate). It takes no memory.
-    pub fn set_len(&mut self, file: usize, len: usize)
-        requires there { is_some (slot self.old.0 file) ≡ true }
-        requires fits { len < 2 ^ 63 }
-        ensures slots { (room : TableState) × (self.new.0 ≡ edited file (with_value (edited_bytes (λ bytes. resized bytes len) room)) self.old.0) }
-        ensures room { self.new.1 ≡ self.old.1 }
-    {
-        self.files.value_mut(file).value.set_len(len);
+        let used = self.files.value_mut(file);
+        used.value.body.extents_mut()
     }
 
     /// Gives the next number, for which there is room, to a file with one name and no holder (pages of open and mkfifo).

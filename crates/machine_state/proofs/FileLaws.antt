@@ -5,17 +5,15 @@ use Rattle.std.proofs.lemmas.List.{map-set}
 use Rattle.std.proofs.Math.Seq.{map-set_same}
 use Rattle.std.proofs.Math.ListN.{get_or-map}
 use Rattle.slots.specs.Slots.{slot, edited}
-use Rattle.posix_model.specs.Descriptors.{file_bytes}
 use Rattle.posix_model.specs.Sweep.{is_open, open_pipe, without_gone_pipe}
 use Rattle.posix_model.specs.Pipes.{fifo_at, pipe_of_fifo}
 use Rattle.posix_model.specs.Proved.Whole.{is_regular_file}
-use Rattle.machine_state.specs.Proved.Types.{Description, File, Used, TableState, FileBody, StoredFile}
+use Rattle.machine_state.specs.Proved.Types.{Description, File, Used, FileBody, StoredFile}
 use Rattle.posix_model.specs.declared.world.File.TheVariants as file
 use Rattle.slots.specs.UsedSlots.{values_in}
 use Rattle.slots.specs.Proved.Uses.{with_value}
 use Rattle.file_table.specs.declared.stored_file.FileBody.TheVariants as body
 use Rattle.file_table.specs.StoredFiles.{file_in, file_slot, file_slots}
-use Rattle.file_table.specs.Proved.Files.{edited_body, edited_bytes}
 use Rattle.machine_state.proofs.UseLaws.{there_values, values_edited}
 
 abbrev pub Files : Type 0
@@ -64,27 +62,6 @@ files_same xs n f same =
     alike : (x : Option StoredFile) → file_slot (option_map f x) ≡ file_slot x
     alike None = refl
     alike (Some stored) = ap Some (same stored)
-
-body_written : (edit : List ℕ → List ℕ) (room : TableState) (b : FileBody) → is_regular_file (Some (file_in b)) ≡ true →
-    file_in (edited_body edit room b) ≡ file.Regular (edit (file_bytes (Some (file_in b))))
-body_written edit room (body.Regular bytes) h = refl
-body_written edit room (body.Fifo fifo) h = cc
-
-module _ (xs : Files) (n : ℕ) where
-  -- a file has other bytes
-  pub files_written : (edit : List ℕ → List ℕ) (room : TableState) → is_regular_file (slot (file_slots (values_in xs)) n) ≡ true →
-      file_slots (values_in (edited n (with_value (edited_bytes edit room)) xs)) ≡ set (file_slots (values_in xs)) n
-      (Some (file.Regular (edit (file_bytes (slot (file_slots (values_in xs)) n)))))
-  files_written edit room there =
-      ap file_slots (values_edited xs n (edited_bytes edit room)) ∙
-      (file_slots_set (values_in xs) n (option_map (edited_bytes edit room) (slot (values_in xs) n)) ∙
-      ap (λ y. set (file_slots (values_in xs)) n y) (written (slot (values_in xs) n) (ap is_regular_file (sym (slot_files (values_in xs) n)) ∙ there) ∙
-      ap (λ y. Some (file.Regular (edit (file_bytes y)))) (sym (slot_files (values_in xs) n))))
-    where
-      written : (x : Option StoredFile) → is_regular_file (file_slot x) ≡ true → file_slot (option_map (edited_bytes edit room) x) ≡ Some
-          (file.Regular (edit (file_bytes (file_slot x))))
-      written None h = cc
-      written (Some stored) h = ap Some (body_written edit room stored.body h)
 
 -- the pipe that a FIFO knows, if one stands there
 abbrev pub known : Option StoredFile → Option ℕ

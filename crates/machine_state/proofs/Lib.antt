@@ -1,6 +1,7 @@
 pub mod SlotLaws
 pub mod UseLaws
 pub mod FileLaws
+pub mod LentLaws
 pub mod PipeLaws
 pub mod LinkLaws
 pub mod CountLaws

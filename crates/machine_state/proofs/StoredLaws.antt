@@ -11,7 +11,7 @@ use Rattle.process_table.specs.Processes.{with_entry}
 use Rattle.posix_model.specs.Descriptors.{held_in}
 use Rattle.posix_model.specs.Proved.Whole.{EachThere, StaysOpen}
 use Rattle.posix_model.specs.Kept.{IsThere, IsSettled}
-use Rattle.machine_state.specs.Proved.Types.{Process, Description, Ring, TableState, FileBody, StoredFile, StoredPipe}
+use Rattle.machine_state.specs.Proved.Types.{Process, Description, Ring, FileBody, StoredFile, StoredPipe}
 use Rattle.slots.specs.UsedSlots.{value_at, values_in}
 use Rattle.slots.specs.Proved.Uses.{uses_at, used_once, use_added, with_value}
 use Rattle.file_table.specs.declared.stored_file.FileBody.TheVariants as body
@@ -19,7 +19,8 @@ use Rattle.pipe_table.specs.Blocks.{block_slots}
 use Rattle.pipe_table.specs.Proved.Pipes.{held_at, readers_at, writers_at, block_at, places_left, edited_ring, with_block, HasPlacesAt}
 use Rattle.machine_state.specs.Proved.Pipes.{is_end, open_ends}
 use Rattle.file_table.specs.StoredFiles.{file_in}
-use Rattle.file_table.specs.Proved.Files.{named, edited_body, edited_bytes, links_at}
+use Rattle.file_extents.specs.ExtentsState.{ExtentsState}
+use Rattle.file_table.specs.Proved.Files.{named, with_extents_in, with_extents, links_at}
 use Rattle.machine_state.specs.Held.{Stored, world_in}
 use Rattle.machine_state.specs.Proved.Consistent.{IsConsistent}
 use Rattle.posix_model.proofs.NameLemmas.{still_none, one_fewer}
@@ -207,11 +208,10 @@ module _ (s : Stored) (all : IsConsistent s) where
       })
 
   -- a file has other bytes
-  pub after_bytes : (n : ℕ) (edit : List ℕ → List ℕ) (room : TableState) →
-      IsConsistent (record s { files = edited n (with_value (edited_bytes edit room)) s.files })
-  after_bytes n edit room = after_edit n (edited_bytes edit room) (λ x. refl) (λ x p is h. (facts_of s all).fifos n p (ap known is ∙ (sym (alike x.body) ∙ h)))
+  pub after_lending : (n : ℕ) (now : ExtentsState) → IsConsistent (record s { files = edited n (with_value (with_extents now)) s.files })
+  after_lending n now = after_edit n (with_extents now) (λ x. refl) (λ x p is h. (facts_of s all).fifos n p (ap known is ∙ (sym (alike x.body) ∙ h)))
     where
-      alike : (b : FileBody) → pipe_of_fifo (fifo_at (Some (file_in (edited_body edit room b)))) ≡ pipe_of_fifo (fifo_at (Some (file_in b)))
+      alike : (b : FileBody) → pipe_of_fifo (fifo_at (Some (file_in (with_extents_in now b)))) ≡ pipe_of_fifo (fifo_at (Some (file_in b)))
       alike (body.Regular bytes) = refl
       alike (body.Fifo fifo) = refl
 

@@ -42,7 +42,7 @@ impl Machine {
         ensures tables { KeepsTableRoom self.old self.new }
         ensures kept { KeepsRoom self.old.room self.new.room }
     {
-        self.files.reserve_bytes(file, start, count)
+        self.files.extents_mut(file).reserve_for(start, count)
     }
 
     /// Writes bytes into a file from the byte `start` on.
@@ -55,7 +55,7 @@ impl Machine {
         ensures world { self.new.world ≡ with_bytes self.old.world file (splice (bytes_of self.old.world file) start (span_bytes bytes.entry)) }
         ensures tables { KeepsTableRoom self.old self.new }
     {
-        self.files.write(file, start, bytes);
+        self.files.extents_mut(file).write_at(start, bytes);
     }
 
     /// Gives a file its length, in bytes: its first bytes, and zeros where there were fewer.
@@ -66,7 +66,7 @@ impl Machine {
         ensures world { self.new.world ≡ with_bytes self.old.world file (resized (bytes_of self.old.world file) len) }
         ensures tables { KeepsTableRoom self.old self.new }
     {
-        self.files.set_len(file, len);
+        self.files.extents_mut(file).set_len(len);
     }
 
     /// Gives a new name to a file that is there.

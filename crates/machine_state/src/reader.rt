@@ -36,7 +36,10 @@ impl WorldReader for Machine {
     }
 
     fn length_of(&self, file: usize) -> usize {
-        self.files.length_of(file)
+        match self.files.extents(file) {
+            Some(bytes) => bytes.len(),
+            None => 0,
+        }
     }
 
     fn read_at(
@@ -46,7 +49,10 @@ impl WorldReader for Machine {
         start: usize,
         count: usize,
     ) -> Result<Content, AllocError> {
-        self.files.read_at(alloc, file, start, count)
+        match self.files.extents(file) {
+            Some(bytes) => bytes.content_at(alloc, start, count),
+            None => Ok(Content::empty()),
+        }
     }
 
     fn file_of(&self, name: &[u8]) -> Option<usize> {

@@ -53,11 +53,11 @@ fn is_written_over(rt: &impl Abort, file: &Extents) -> Result<(), AllocError> {
 
 /// Cuts the file to three bytes, and gives it another length twice.
 fn is_cut_and_extended(rt: &impl Abort, file: &mut Extents) -> Result<(), AllocError> {
-    file.cut(3);
-    file.extend_to(5);
+    file.set_len(3);
+    file.set_len(5);
     assert!(rt; reads(file, 0, 99, b"a12\0\0")?);
     assert!(rt; reads(file, 5, 1, b"")?);
-    file.extend_to(1_048_576);
+    file.set_len(1_048_576);
     assert_eq!(rt; file.len(), 1_048_576);
     assert!(rt; reads(file, 1_048_575, 9, b"\0")?);
     Ok(())

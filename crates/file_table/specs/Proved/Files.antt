@@ -3,21 +3,33 @@ use Rattle.std.specs.Prelude.{ℕ, ◌+◌, ◌-◌, ◌==◌, List, Option, Non
 use Rattle.posix_model.specs.Pipes.{opened_once}
 use Rattle.call_types.specs.declared.description.Mode.{Mode}
 use Rattle.posix_model.specs.declared.world.Fifo.{Fifo}
+use Rattle.slots.specs.declared.used.Used.{Used}
 use Rattle.file_extents.specs.ChunkTable.{TableState}
+use Rattle.file_extents.specs.ExtentsState.{ExtentsState}
 use Rattle.file_table.specs.declared.stored_file.FileBody.{FileBody}
 use Rattle.file_table.specs.declared.stored_file.StoredFile.{StoredFile}
 use Rattle.call_types.specs.declared.description.Mode.TheVariants as mode
 use Rattle.file_table.specs.declared.stored_file.FileBody.TheVariants as body
 use Rattle.file_table.specs.StoredFiles.{no_room}
 
--- a regular file with other bytes, and with other room
-abbrev pub edited_body : (List ℕ → List ℕ) → TableState → FileBody → FileBody
-edited_body edit room (body.Regular bytes) = body.Regular (record { bytes = edit bytes.bytes; table = room })
-edited_body edit room (body.Fifo fifo) = body.Fifo fifo
+-- the bytes and the room of a regular file
+abbrev pub extents_in : FileBody → Option ExtentsState
+extents_in (body.Regular extents) = Some extents
+extents_in (body.Fifo fifo) = None
+
+-- the same of the file at a slot
+abbrev pub extents_at : Option (Used StoredFile) → Option ExtentsState
+extents_at None = None
+extents_at (Some used) = extents_in used.value.body
+
+-- a regular file with these bytes and this room
+abbrev pub with_extents_in : ExtentsState → FileBody → FileBody
+with_extents_in extents (body.Regular old) = body.Regular extents
+with_extents_in extents (body.Fifo fifo) = body.Fifo fifo
 
 -- the same of a file, with the names that it has
-abbrev pub edited_bytes : (List ℕ → List ℕ) → TableState → StoredFile → StoredFile
-edited_bytes edit room stored = record stored { body = edited_body edit room stored.body }
+abbrev pub with_extents : ExtentsState → StoredFile → StoredFile
+with_extents extents stored = record stored { body = with_extents_in extents stored.body }
 
 -- a FIFO of which an end was opened once more, on this pipe
 abbrev pub opened_body : Mode → ℕ → FileBody → FileBody
