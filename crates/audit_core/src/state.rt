@@ -5,8 +5,7 @@ use machine_state::machine::Machine;
 use posix_model::opened::OpenDescriptor;
 use posix_model::reader::WorldReader;
 use posix_model::world::Fifo;
-use process_table::process::Parked;
-use process_table::table::DescriptorTable;
+use process_table::process::Process;
 use std::alloc::{AllocError, Global};
 
 /// The machine of an audit, as a type of its own. Calls are compiled once for each type of state that they read, so
@@ -20,6 +19,11 @@ impl WorldReader for Audited {
     ghost world = { λ a. a.machine.world };
 
     #[inline(always)]
+    fn process(&self, process: usize) -> Option<&Process> {
+        self.machine.process(process)
+    }
+
+    #[inline(always)]
     fn opened(&self, process: usize, fd: i32) -> Option<OpenDescriptor> {
         self.machine.opened(process, fd)
     }
@@ -27,14 +31,6 @@ impl WorldReader for Audited {
     #[inline(always)]
     fn opened_at(&self, process: usize, fd: usize) -> Option<OpenDescriptor> {
         self.machine.opened_at(process, fd)
-    }
-
-    fn lowest_free(&self, process: usize) -> Option<usize> {
-        self.machine.lowest_free(process)
-    }
-
-    fn two_lowest_free(&self, process: usize) -> Option<(usize, usize)> {
-        self.machine.two_lowest_free(process)
     }
 
     fn length_of(&self, file: usize) -> usize {
@@ -101,26 +97,6 @@ impl WorldReader for Audited {
 
     fn next_process(&self) -> usize {
         self.machine.next_process()
-    }
-
-    fn is_here(&self, process: usize) -> bool {
-        self.machine.is_here(process)
-    }
-
-    fn is_live(&self, process: usize) -> bool {
-        self.machine.is_live(process)
-    }
-
-    fn awaits(&self, process: usize) -> bool {
-        self.machine.awaits(process)
-    }
-
-    fn copied_table(&self, alloc: Global, process: usize) -> Result<DescriptorTable, AllocError> {
-        self.machine.copied_table(alloc, process)
-    }
-
-    fn parked(&self, process: usize) -> Option<&Parked> {
-        self.machine.parked(process)
     }
 
     fn is_closed(&self) -> bool {

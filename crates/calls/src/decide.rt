@@ -107,7 +107,7 @@ pub fn decide<R: WorldReader>(
         }
         Act::Attach => Ok(Some(decide_attach(state, actor))),
         Act::Resume => decide_resume(state, alloc, bounds, actor),
-        Act::Exit if state.is_live(actor) => Ok(Some(decide_exit(actor))),
+        Act::Exit if state.process(actor).is_some() => Ok(Some(decide_exit(actor))),
         Act::CloseRun if actor == HOUSE as usize && !state.is_closed() => {
             Ok(Some(decide_close_run()))
         }

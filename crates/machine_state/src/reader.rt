@@ -3,12 +3,16 @@ use call_types::bounded::Content;
 use posix_model::opened::OpenDescriptor;
 use posix_model::reader::WorldReader;
 use posix_model::world::Fifo;
-use process_table::process::Parked;
-use process_table::table::DescriptorTable;
+use process_table::process::Process;
 use std::alloc::{AllocError, Global};
 
 impl WorldReader for Machine {
     ghost world = { λ m. m.world };
+
+    #[inline(always)]
+    fn process(&self, process: usize) -> Option<&Process> {
+        self.processes.get(process)
+    }
 
     #[inline(always)]
     fn opened(&self, process: usize, fd: i32) -> Option<OpenDescriptor> {
@@ -25,14 +29,6 @@ impl WorldReader for Machine {
             number: ticket.again(),
             description,
         })
-    }
-
-    fn lowest_free(&self, process: usize) -> Option<usize> {
-        self.processes.lowest_free(process)
-    }
-
-    fn two_lowest_free(&self, process: usize) -> Option<(usize, usize)> {
-        self.processes.two_lowest_free(process)
     }
 
     fn length_of(&self, file: usize) -> usize {
@@ -105,26 +101,6 @@ impl WorldReader for Machine {
 
     fn next_process(&self) -> usize {
         self.processes.next()
-    }
-
-    fn is_here(&self, process: usize) -> bool {
-        self.processes.is_here(process)
-    }
-
-    fn is_live(&self, process: usize) -> bool {
-        self.processes.get(process).is_some()
-    }
-
-    fn awaits(&self, process: usize) -> bool {
-        self.processes.awaits(process)
-    }
-
-    fn copied_table(&self, alloc: Global, process: usize) -> Result<DescriptorTable, AllocError> {
-        self.processes.copy_table(alloc, process)
-    }
-
-    fn parked(&self, process: usize) -> Option<&Parked> {
-        self.processes.parked(process)
     }
 
     fn is_closed(&self) -> bool {

@@ -47,7 +47,7 @@ fn is_step(world: &World, bounds: Bounds, actor: usize, act: &Act) -> bool
         Act::Attach => true,
         Act::Call(_) => can_call(world, actor),
         Act::Resume => is_ready(world, bounds, actor),
-        Act::Exit => world.is_live(actor),
+        Act::Exit => world.process(actor).is_some(),
         Act::CloseRun => actor == HOUSE as usize && !world.closed,
     }
 }

@@ -11,8 +11,7 @@ use crate::opened::OpenDescriptor;
 use crate::reader::WorldReader;
 use crate::world::{Fifo, File, World};
 use call_types::bounded::Content;
-use process_table::process::{Parked, Process};
-use process_table::table::DescriptorTable;
+use process_table::process::Process;
 use slots::dense::Slots;
 use slots::ticket::Ticket;
 use std::alloc::{AllocError, Global};
@@ -53,6 +52,10 @@ pub fn held_bytes(world: &World, pipe: usize) -> &[u8]
 impl WorldReader for World {
     ghost world = { λ w. w };
 
+    fn process(&self, process: usize) -> Option<&Process> {
+        self.processes.get(process)
+    }
+
     fn opened(&self, process: usize, fd: i32) -> Option<OpenDescriptor> {
         if fd < 0 {
             return None;
@@ -62,20 +65,6 @@ impl WorldReader for World {
 
     fn opened_at(&self, process: usize, fd: usize) -> Option<OpenDescriptor> {
         opened_number(self, fd, entry_of(&self.processes, process, fd))
-    }
-
-    fn lowest_free(&self, process: usize) -> Option<usize> {
-        match self.processes.get(process) {
-            Some(process) => process.table.lowest_free(),
-            None => None,
-        }
-    }
-
-    fn two_lowest_free(&self, process: usize) -> Option<(usize, usize)> {
-        match self.processes.get(process) {
-            Some(process) => process.table.two_lowest_free(),
-            None => None,
-        }
     }
 
     fn length_of(&self, file: usize) -> usize {
@@ -154,38 +143,6 @@ impl WorldReader for World {
 
     fn next_process(&self) -> usize {
         self.processes.len()
-    }
-
-    fn is_here(&self, process: usize) -> bool {
-        match self.processes.get(process) {
-            Some(process) => process.attached,
-            None => false,
-        }
-    }
-
-    fn is_live(&self, process: usize) -> bool {
-        self.processes.get(process).is_some()
-    }
-
-    fn awaits(&self, process: usize) -> bool {
-        match self.processes.get(process) {
-            Some(process) => !process.attached,
-            None => false,
-        }
-    }
-
-    fn copied_table(&self, alloc: Global, process: usize) -> Result<DescriptorTable, AllocError> {
-        match self.processes.get(process) {
-            Some(parent) => parent.table.clone(),
-            None => DescriptorTable::free(alloc),
-        }
-    }
-
-    fn parked(&self, process: usize) -> Option<&Parked> {
-        match self.processes.get(process) {
-            Some(process) => process.parked.as_ref(),
-            None => None,
-        }
     }
 
     fn is_closed(&self) -> bool {

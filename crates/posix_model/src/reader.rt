@@ -1,6 +1,6 @@
 //! What can be read as a world of the model. Calls are decided of any such state, by one body for all of them.
 
-ghost use Rattle.std.specs.Prelude.{◌≡◌, ◌≤◌, ◌<◌, ◌^◌, pos, is_some, length, take, IfOk, IfSome};
+ghost use Rattle.std.specs.Prelude.{◌≡◌, ◌≤◌, ◌<◌, ◌^◌, pos, length, take, IfOk, IfSome};
 ghost use Rattle.std.specs.Option.{option_copied};
 ghost use Rattle.slots.specs.Slots.{slot, lowest, live};
 ghost use Rattle.process_table.specs.Processes.{table_of, copied_table, parked_of, is_here, awaits};
@@ -16,13 +16,17 @@ use crate::opened::OpenDescriptor;
 use crate::world::Fifo;
 use call_types::bounded::Content;
 use call_types::limits::{OPEN_MAX, TRANSFER_MAX};
-use process_table::process::Parked;
+use process_table::process::{Parked, Process};
 use process_table::table::DescriptorTable;
 use std::alloc::{AllocError, Global};
 
 /// A state that can be read as a world.
 pub trait WorldReader {
     ghost world: { Self → Worlds };
+
+    /// The process of a number, if it is live.
+    fn process(&self, process: usize) -> Option<&Process>
+        ensures { option_copied result ≡ slot (world self.now).processes process };
 
     /// What a descriptor of a process leads to, if it is open.
     fn opened(&self, process: usize, fd: i32) -> Option<OpenDescriptor>
@@ -31,15 +35,6 @@ pub trait WorldReader {
     /// What a descriptor of a process leads to, if it is open. Any `usize` may be asked for.
     fn opened_at(&self, process: usize, fd: usize) -> Option<OpenDescriptor>
         ensures { result ≡ opened (world self.now) process (pos fd) };
-
-    /// The lowest free descriptor of a process (XSH 2.14, File Descriptor Allocation).
-    fn lowest_free(&self, process: usize) -> Option<usize>
-        ensures { result ≡ lowest (table_of (slot (world self.now).processes process)) };
-
-    /// The two lowest free descriptors of a process.
-    fn two_lowest_free(&self, process: usize) -> Option<(usize, usize)>
-        ensures exact { result ≡ two_lowest (table_of (slot (world self.now).processes process)) }
-        ensures within { IfSome result (λ fds. (fds.0 < OPEN_MAX) × (fds.1 < OPEN_MAX)) };
 
     /// The length of a regular file, in bytes.
     fn length_of(&self, file: usize) -> usize
@@ -111,27 +106,72 @@ pub trait WorldReader {
     fn next_process(&self) -> usize
         ensures { result ≡ length (world self.now).processes };
 
-    /// Whether a process is live and attached.
-    fn is_here(&self, process: usize) -> bool
-        ensures { result ≡ is_here (slot (world self.now).processes process) };
-
-    /// Whether a process is live.
-    fn is_live(&self, process: usize) -> bool
-        ensures { result ≡ is_some (slot (world self.now).processes process) };
-
-    /// Whether a process is live and has no connection yet.
-    fn awaits(&self, process: usize) -> bool
-        ensures { result ≡ awaits (slot (world self.now).processes process) };
-
-    /// The descriptors of a child of a process. An error says that memory ran out.
-    fn copied_table(&self, alloc: Global, process: usize) -> Result<DescriptorTable, AllocError>
-        ensures { IfOk result (λ table. table ≡ copied_table (slot (world self.now).processes process)) };
-
-    /// The call that a process waits in.
-    fn parked(&self, process: usize) -> Option<&Parked>
-        ensures { option_copied result ≡ parked_of (slot (world self.now).processes process) };
-
     /// Whether the run is closed.
     fn is_closed(&self) -> bool
         ensures { result ≡ (world self.now).closed };
+
+    /// Whether a process is live and attached.
+    #[inline(always)]
+    fn is_here(&self, process: usize) -> bool
+        ensures { result ≡ is_here (slot (world self.now).processes process) }
+    {
+        match self.process(process) {
+            Some(process) => process.attached,
+            None => false,
+        }
+    }
+
+    /// Whether a process is live and has no connection yet.
+    #[inline(always)]
+    fn awaits(&self, process: usize) -> bool
+        ensures { result ≡ awaits (slot (world self.now).processes process) }
+    {
+        match self.process(process) {
+            Some(process) => !process.attached,
+            None => false,
+        }
+    }
+
+    /// The call that a process waits in.
+    #[inline(always)]
+    fn parked(&self, process: usize) -> Option<&Parked>
+        ensures { option_copied result ≡ parked_of (slot (world self.now).processes process) }
+    {
+        match self.process(process) {
+            Some(process) => process.parked.as_ref(),
+            None => None,
+        }
+    }
+
+    /// The lowest free descriptor of a process (XSH 2.14, File Descriptor Allocation).
+    fn lowest_free(&self, process: usize) -> Option<usize>
+        ensures { result ≡ lowest (table_of (slot (world self.now).processes process)) }
+    {
+        match self.process(process) {
+            Some(process) => process.table.lowest_free(),
+            None => None,
+        }
+    }
+
+    /// The two lowest free descriptors of a process (page of pipe).
+    fn two_lowest_free(&self, process: usize) -> Option<(usize, usize)>
+        ensures exact { result ≡ two_lowest (table_of (slot (world self.now).processes process)) }
+        ensures within { IfSome result (λ fds. (fds.0 < OPEN_MAX) × (fds.1 < OPEN_MAX)) }
+    {
+        match self.process(process) {
+            Some(process) => process.table.two_lowest_free(),
+            None => None,
+        }
+    }
+
+    /// A copy of the descriptors of a process (page of fork); of one that is not live none is open. An error says that
+    /// memory ran out.
+    fn copied_table(&self, alloc: Global, process: usize) -> Result<DescriptorTable, AllocError>
+        ensures { IfOk result (λ table. table ≡ copied_table (slot (world self.now).processes process)) }
+    {
+        match self.process(process) {
+            Some(parent) => parent.table.clone(),
+            None => DescriptorTable::free(alloc),
+        }
+    }
 }

@@ -1,8 +1,8 @@
 ghost use Rattle.std.specs.Prelude.{◌≡◌, ◌+◌, ◌<◌, ◌≤◌, ◌∷◌, ◌++◌, [], Some, None, true, is_some, length, slice_set, option_copied, IfOk, IfSome, IfNone, OnOk, IsOk};
-ghost use Rattle.slots.specs.Slots.{slot, live, lowest, edited};
+ghost use Rattle.slots.specs.Slots.{slot, live, edited};
 ghost use Rattle.call_types.specs.declared.limits.TheConstants.{OPEN_MAX};
-ghost use Rattle.process_table.specs.Tables.{two_lowest, IsNextOpen, IsFreeFrom};
-ghost use Rattle.process_table.specs.Processes.{table_of, copied_table, parked_of, with_entry, with_connection, with_parked, with_total, is_here, awaits};
+ghost use Rattle.process_table.specs.Tables.{IsNextOpen, IsFreeFrom};
+ghost use Rattle.process_table.specs.Processes.{table_of, parked_of, with_entry, with_connection, with_parked, with_total};
 
 use crate::process::{Parked, Process};
 use crate::table::DescriptorTable;
@@ -77,28 +77,6 @@ impl ProcessTable {
         self.processes.get(&self.ticket(process))
     }
 
-    /// Whether a process is live and has a connection.
-    #[inline(always)]
-    pub fn is_here(&self, process: usize) -> bool
-        ensures { result ≡ is_here (slot self.now.0 process) }
-    {
-        match self.get(process) {
-            Some(process) => process.attached,
-            None => false,
-        }
-    }
-
-    /// Whether a process is live and has no connection yet.
-    #[inline(always)]
-    pub fn awaits(&self, process: usize) -> bool
-        ensures { result ≡ awaits (slot self.now.0 process) }
-    {
-        match self.get(process) {
-            Some(process) => !process.attached,
-            None => false,
-        }
-    }
-
     /// The call that a process waits in.
     #[inline(always)]
     pub fn parked(&self, process: usize) -> Option<&Parked>
@@ -106,27 +84,6 @@ impl ProcessTable {
     {
         match self.get(process) {
             Some(process) => process.parked.as_ref(),
-            None => None,
-        }
-    }
-
-    /// The lowest free descriptor of a process (XSH 2.14, File Descriptor Allocation).
-    pub fn lowest_free(&self, process: usize) -> Option<usize>
-        ensures { result ≡ lowest (table_of (slot self.now.0 process)) }
-    {
-        match self.get(process) {
-            Some(process) => process.table.lowest_free(),
-            None => None,
-        }
-    }
-
-    /// The two lowest free descriptors of a process (page of pipe).
-    pub fn two_lowest_free(&self, process: usize) -> Option<(usize, usize)>
-        ensures exact { result ≡ two_lowest (table_of (slot self.now.0 process)) }
-        ensures within { IfSome result (λ fds. (fds.0 < OPEN_MAX) × (fds.1 < OPEN_MAX)) }
-    {
-        match self.get(process) {
-            Some(process) => process.table.two_lowest_free(),
             None => None,
         }
     }
@@ -151,16 +108,6 @@ impl ProcessTable {
         match self.get(process) {
             Some(process) => process.table.next_open(from),
             None => None,
-        }
-    }
-
-    /// A copy of the descriptors of a process (page of fork); of one that is not live none is open.
-    pub fn copy_table(&self, alloc: Global, process: usize) -> Result<DescriptorTable, AllocError>
-        ensures { IfOk result (λ table. table ≡ copied_table (slot self.now.0 process)) }
-    {
-        match self.get(process) {
-            Some(process) => process.table.clone(),
-            None => DescriptorTable::free(alloc),
         }
     }
 

@@ -22,7 +22,7 @@ pub(crate) struct Lost {
 pub(crate) fn is_live<L: Ledgers>(book: &Book<L>, process: u32) -> bool
     ensures { result ≡ is_live_in book.now process }
 {
-    book.machine().is_live(process as usize)
+    book.machine().process(process as usize).is_some()
 }
 
 impl Lost {

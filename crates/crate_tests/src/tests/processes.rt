@@ -1,4 +1,7 @@
 //! The table of processes, with the descriptors of each.
+ghost use Rattle.std.specs.Prelude.{◌≡◌, Some};
+ghost use Rattle.slots.specs.Slots.{slot};
+
 use process_table::process::Process;
 use process_table::processes::ProcessTable;
 use process_table::table::DescriptorTable;
@@ -15,11 +18,21 @@ fn number_of(entry: Option<&Ticket>) -> Option<usize> {
     }
 }
 
+/// A process that is live.
+fn process<'a>(rt: &impl Abort, processes: &'a ProcessTable, number: usize) -> &'a Process
+    ensures { slot processes.now.0 number ≡ Some result.now }
+{
+    processes.get(number).expect(rt, "the process is live")
+}
+
 /// Looks at the first process while descriptor 0 is given.
 fn gives_the_lowest(rt: &impl Abort, processes: &mut ProcessTable) {
-    assert_eq!(rt; processes.lowest_free(0), Some(0));
+    assert_eq!(rt; process(rt, processes, 0).table.lowest_free(), Some(0));
     assert!(rt; processes.set_fd(0, 0, Some(Ticket::new(7, 0))).is_none());
-    assert_eq!(rt; processes.two_lowest_free(0), Some((1, 2)));
+    assert_eq!(rt;
+        process(rt, processes, 0).table.two_lowest_free(),
+        Some((1, 2))
+    );
 }
 
 /// Looks at a copy of its descriptors, and clears the one that is open.
@@ -34,10 +47,8 @@ fn is_a_copy(rt: &impl Abort, copy: &mut DescriptorTable) {
 /// Looks at what the process itself has after that.
 fn keeps_its_own(rt: &impl Abort, processes: &ProcessTable) {
     assert_eq!(rt; number_of(processes.descriptor(0, 0)), Some(7));
-    assert_eq!(rt;
-        (processes.lowest_free(0), processes.next_open(0, 0)),
-        (Some(1), Some(0))
-    );
+    assert_eq!(rt; process(rt, processes, 0).table.lowest_free(), Some(1));
+    assert_eq!(rt; processes.next_open(0, 0), Some(0));
 }
 
 /// Adds a process that has all its descriptors free.
@@ -60,7 +71,7 @@ fn opened_and_copied(
 ) -> Result<(), Fail> {
     add_process(alloc, processes, true)?;
     gives_the_lowest(rt, processes);
-    let mut copy = processes.copy_table(alloc, 0)?;
+    let mut copy = process(rt, processes, 0).table.clone()?;
     is_a_copy(rt, &mut copy);
     keeps_its_own(rt, processes);
     Ok(())
@@ -98,11 +109,8 @@ fn add_two_at_one_place(alloc: Global, processes: &mut ProcessTable) -> Result<(
 /// Looks at these two.
 fn are_apart(rt: &impl Abort, processes: &ProcessTable) {
     assert_eq!(rt; (processes.live(), processes.next()), (2, 1_025));
-    assert_eq!(rt; (processes.is_here(0), processes.awaits(0)), (true, false));
-    assert_eq!(rt;
-        (processes.is_here(1_024), processes.awaits(1_024)),
-        (false, true)
-    );
+    assert!(rt; process(rt, processes, 0).attached);
+    assert!(rt; !process(rt, processes, 1_024).attached);
     assert!(rt; processes.get(1).is_none() && processes.get(2_048).is_none());
 }
 
