@@ -52,7 +52,7 @@ WALKS = (
         "job_core/src/replay.rt",
         "replay",
         {"Call": "Pwrite", "Act": "Call", "ScriptAct": "Call", "FileEdit": "Bytes", "Spelling": "Plain"},
-        Most(420, 79, 24),
+        Most(411, 80, 22),
         "read_text run_script gather_lines run_all next_act read_act pwrite_call run_next run_act run_call "
         "call_refusal decide_call decide_pwrite opened pwrite_fault puts append reserve_for "
         "bytes_moved push apply write_bytes write put_line write_record put_pwrite put_outcome write_totals "
@@ -63,7 +63,7 @@ WALKS = (
         "session_core/src/serve.rt",
         "serve",
         {"Call": "Write", "Act": "Call", "Request": "Call", "FileEdit": "Bytes"},
-        Most(680, 117, 28),
+        Most(674, 118, 26),
         "pump pump_on feed push_all end_of_piece attend take_ready take_calls take_at call_at call start wake_stirred "
         "put_recorded encode_recorded send_ready flush wait_out wait_once finish close_session hang_up",
     ),

@@ -8,6 +8,7 @@ How a name is resolved, where `crates.txt` lets the caller's crate see the calle
   the caller's file names
 - `self.name(..)`, `self.field.name(..)`: the methods of the caller's type, or of the types that the field is declared
   with
+- `name(..).name(..)`: the methods of the types that the functions of the first name give
 - `.name(..)` else, or where that has none: the methods of each type and trait that the caller's file names, and of the
   traits that such a trait stands on; where none of these has one, that of the only type in sight that has. So a type
   that is named and not meant is counted too, and a name that several types have is lost where the file names none.
@@ -61,6 +62,19 @@ def end_of(text: str, at: int) -> int:
         if depth == 0:
             return place + 1
     return len(text)
+
+
+def called_before(text: str, at: int) -> str:
+    """The name of the call that ends at a place, if one does."""
+    if text[at - 1 : at] != ")":
+        return ""
+    depth = 0
+    for place in range(at - 1, -1, -1):
+        depth += {")": 1, "(": -1}.get(text[place], 0)
+        if depth == 0:
+            name = re.search(rf"({NAME})$", text[:place])
+            return name[1] if name else ""
+    return ""
 
 
 def without_clauses(text: str) -> str:
@@ -118,6 +132,7 @@ class Source:
         self.text = re.sub(r"\s+(?=\.[a-z])", "", self.text)
         self.names = set(re.findall(NAME, self.text))
         self.fields = {(owner, name): set(re.findall(NAME, of)) for owner, name, of in self.declared()}
+        self.results: dict[str, set[str]] = {}
         self.bodies = dict(self.functions())
 
     def declared(self) -> Iterator[tuple[str, str, str]]:
@@ -152,9 +167,12 @@ class Source:
             opened = self.text.find("(", found.end())
             closed = end_of(self.text, opened)
             body = re.compile(r"[{;]").search(self.text, closed)
+            within = (block for block in blocks if block[0] < found.start() < block[1])
+            _, _, owner, trait = next(within, (0, 0, "", ""))
+            if body:
+                given = re.findall(NAME, self.text[closed : body.start()])
+                self.results.setdefault(found[1], set()).update(owner if name == "Self" else name for name in given)
             if body and body[0] == "{":
-                within = (block for block in blocks if block[0] < found.start() < block[1])
-                _, _, owner, trait = next(within, (0, 0, "", ""))
                 is_method = re.match(r"\(\s*(?:&\s*(?:'\w+ )?)?(?:mut )?self\b", self.text[opened:]) is not None
                 text = self.text[body.start() : end_of(self.text, body.start())]
                 yield Function(self.crate, self.file, found[1], owner, trait, is_method), text
@@ -171,7 +189,10 @@ class Graph:
         self.fields = {key: of for source in self.sources.values() for key, of in source.fields.items()}
         self.name_supertraits()
         self.by_name: dict[str, list[Function]] = {}
+        self.results: dict[str, set[str]] = {}
         for source in self.sources.values():
+            for name, given in source.results.items():
+                self.results.setdefault(name, set()).update(given)
             for function in source.bodies:
                 self.by_name.setdefault(function.name, []).append(function)
 
@@ -194,10 +215,15 @@ class Graph:
         """The functions that one calls, where some types have these variants."""
         source = self.sources[caller.file]
         found = set()
-        for receiver, dot, path, name in CALL.findall(chosen(source.bodies[caller], facts)):
+        text = chosen(source.bodies[caller], facts)
+        for call in CALL.finditer(text):
+            receiver, dot, path, name = call.groups(default="")
             seen = [it for it in self.by_name.get(name, []) if it.crate in self.seen_by[caller.crate]]
             if dot:
-                found |= self.methods([it for it in seen if it.is_method], caller, source, receiver)
+                given = self.results.get(called_before(text, call.start()), set()) if not receiver else set()
+                methods = [it for it in seen if it.is_method]
+                of_given = {it for it in methods if {it.owner, it.trait} - {""} & given}
+                found |= of_given or self.methods(methods, caller, source, receiver)
             else:
                 found |= {it for it in seen if is_meant(it, caller, source, path.rstrip(":"))}
         return found
