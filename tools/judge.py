@@ -72,7 +72,8 @@ The last line says what the exit status means:
    makes no FIFO, opens one before the other end is opened, blocks other signals, SIGPIPE comes otherwise than once
    with EPIPE, SA_RESTART is set otherwise, it goes on after a signal that
    ends it (as x86-64 alone tells), a wait tells otherwise of a child than the kernel (which, where a handler ends
-   calls, keeps that from Linux 6.15 on), a fork another number than the child has, F_SETFL sets other flags, an exec
+   calls, keeps that from Linux 6.15 on), or does not wait (which is seen from then on too, of children that were not
+   made beside threads), a fork another number than the child has, F_SETFL sets other flags, an exec
    gives a program other words, or fails with another error than that of a path which leads to nothing, a read
    changes what is beyond its buffer; or it has not come back to the end, or a crash has ended it
 2  wrong words
@@ -834,6 +835,7 @@ class Verdict:
     def is_all_compared(self) -> bool:
         """Whether all that it did was compared, but for what only looks."""
         are_told = past.told_own(self.past) or past.told_unlooked(self.native) or past.given(self.native)
+        are_told = are_told or past.told_unwaited(self.native)
         is_all_seen = not self.compared.started.calls and not self.compared.looks() and not are_told
         return is_all_seen and not past.doubt(self.past)
 
@@ -1043,6 +1045,7 @@ def told_others(verdict: Verdict) -> list[str]:
     told = [f"what {several(count, 'program')} did that it starts{first}"] if count else []
     told += ["looks at names"] if verdict.compared.looks() else []
     told += ["how a child ended"] if past.told_unlooked(verdict.native) else []
+    told += ["whether a wait for a child waits"] if past.told_unwaited(verdict.native) else []
     told += ["calls that fdref's library answers"] if past.told_own(every) else []
     told += filter(None, [past.given(verdict.native)])
     told += [f"what went past fdref (first {compare.clipped(others[0].said(' of '), 60)})"] if others else []
@@ -1161,7 +1164,7 @@ def told(verdict: Verdict, seconds: float, before: int) -> str:
     is_other = bool(findings) or do_outputs_differ(verdict.both)
     lines += past.told_signals(every) if is_other else []
     lines += told_looks(len(verdict.compared.looks())) + past.told_own(every)
-    lines += past.told_unlooked(verdict.native)
+    lines += past.told_unlooked(verdict.native) + past.told_unwaited(verdict.native)
     lines += [f"not compared: {it}" for it in [past.given(verdict.native)] if it]
     lines += map(compare.clipped, told_started(verdict.compared.started) + past.told_past(every))
     return "\n".join([*lines, f"audit: {verdict.audit}"])

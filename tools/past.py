@@ -45,6 +45,8 @@ WRONG = "wrong"
 UNENDED = "unended"
 # A native wait that has told how a child has ended, which nothing else tells.
 UNLOOKED = "unlooked"
+# A native wait before which the library itself has waited, so that it is not seen whether the wait does.
+UNWAITED = "unwaited"
 # A file of fdref at descriptor 0, which stdio does not read.
 IDLE = "idle"
 # A native call that has not failed, and has set errno.
@@ -67,7 +69,7 @@ MANY = {MAKES: "descriptors of the system"}
 # Kinds that have changed nothing in the native run which has no line, or are asked for by themselves.
 UNDOUBTED = (
     *(THREAD, SIGNAL, VFORK, CUT, INTERRUPT, TIMER, MADE, HANDLER, MAKES, RIGHTS, LOOK, OWN, WRONG, UNENDED),
-    *(UNLOOKED, ERRNO, IDLE, GIVEN),
+    *(UNLOOKED, UNWAITED, ERRNO, IDLE, GIVEN),
 )
 
 # Calls that look, or hasten what comes anyway: they change no file, but may tell something else than natively.
@@ -126,7 +128,7 @@ class Past(NamedTuple):
     def is_past(self) -> bool:
         """Whether it is a call that went past fdref, and not what holds one of fdref."""
         kinds = (THREAD, SIGNAL, MADE, INTERRUPT, HANDLER, MAKES, RIGHTS, LOOK, OWN, WRONG, UNENDED)
-        return self.kind not in (*kinds, UNLOOKED, ERRNO, IDLE, GIVEN)
+        return self.kind not in (*kinds, UNLOOKED, UNWAITED, ERRNO, IDLE, GIVEN)
 
     def why(self) -> str:
         """The same as what a difference may be by."""
@@ -209,10 +211,21 @@ def told_own(every: list[Past]) -> list[str]:
 
 def told_unlooked(native: list[Past]) -> list[str]:
     """Which native waits have told how a child has ended, with which nothing could be compared."""
-    found = [it for it in native if it.kind == UNLOOKED]
+    calls, causes = calls_of(UNLOOKED, native)
+    return [f"not compared: how a child ended, of which the system told by {calls}{causes}"] if calls else []
+
+
+def told_unwaited(native: list[Past]) -> list[str]:
+    """Of which native waits it is not seen whether they wait for a child."""
+    calls, causes = calls_of(UNWAITED, native)
+    return [f"not compared: whether a wait for a child waits, as {calls}{causes}"] if calls else []
+
+
+def calls_of(kind: str, native: list[Past]) -> tuple[str, str]:
+    """The calls of a kind, and why it was noted of them."""
+    found = [it for it in native if it.kind == kind]
     calls, why = dict.fromkeys(it.call for it in found), dict.fromkeys(it.name for it in found if it.name)
-    causes = f" ({'; '.join(why)})" if why else ""
-    return [f"not compared: how a child ended, of which the system told by {', '.join(calls)}{causes}"] if calls else []
+    return ", ".join(calls), f" ({'; '.join(why)})" if why else ""
 
 
 def given(native: Sequence[Past]) -> str:

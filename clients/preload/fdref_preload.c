@@ -36,7 +36,7 @@
                         14<tab>ends`, as it sets a handler of signal 14 that ends calls, or `restarts` them, or takes it
                         away (`none`), or as the signal is `ignored`. `- 6 p0 makes socket` is a call that makes a
                         descriptor of the system, from 32 on, where a native run has the lowest that is free. In a
-                        native run twelve kinds are there: after `- 0 p0 cut exit` a process ended while others of its
+                        native run thirteen kinds are there: after `- 0 p0 cut exit` a process ended while others of its
                         threads may have been in a call; by `! 0 p0 made 3` a descriptor is higher since 3 is open,
                         which no call made that fdref knows; and `signal`, `look`, `handler` and `! 57 p0 cloexec
                         F_GETFD<tab>3 = 0`, with the length of the log in the place of the place: F_GETFD, or F_SETFD,
@@ -45,9 +45,10 @@
                         So is `! 57 p0 wrong write<tab>has changed which signals are blocked`, which no line tells,
                         `- 57 p0 unended read<tab>10`, which may have waited as a handler ran that ends calls,
                         `- 57 p0 unlooked waitpid<tab>the process has threads`, which has told how a child has ended,
-                        with which nothing could be compared, `- 57 p0 given fsync<tab>error 5`, an answer that is
-                        not compared, as a disk may give it, and `- 57 p0 errno read`, which has set errno, and has not
-                        failed.
+                        with which nothing could be compared, `- 57 p0 unwaited waitpid<tab>the process has threads`,
+                        before which this library has waited itself, so that it is not seen whether that waits,
+                        `- 57 p0 given fsync<tab>error 5`, an answer that is not compared, as a disk may give it, and
+                        `- 57 p0 errno read`, which has set errno, and has not failed.
                         There a child has the handlers of its parent once more, and after an exec 0 stands for all
                         signals. After `ends heard` or `restarts heard` this library calls the handler, and notes `- 57
                         p0 ran 14` before.
@@ -177,6 +178,7 @@
 #include <sys/types.h>
 #include <sys/uio.h>
 #include <sys/un.h>
+#include <sys/utsname.h>
 #include <sys/wait.h>
 #include <sys/xattr.h>
 #include <termios.h>

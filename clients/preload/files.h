@@ -359,12 +359,14 @@ static int64_t gone_by(const struct going *it, int command, int argument, int64_
     return it->way == NOTE ? control_noted(it->act.fd, command, argument, (int)given) : given;
 }
 
-/* Asks the kernel whether there is a child, or any: -1, and which one has ended. It may wait for that. */
+/* Asks the kernel whether there is a child, or any: -1, or one of a group: 0 or below -1; and which one has ended. It
+   may wait for that. */
 static int has_child(pid_t which, siginfo_t *ended, int options)
 {
+    long kind = which > 0 ? P_PID : which == -1 ? P_ALL : P_PGID;
+    long number = which > 0 ? which : which == -1 ? 0 : which == 0 ? system_syscall(SYS_getpgid, 0L) : -(long)which;
     memset(ended, 0, sizeof *ended);
-    return system_syscall(SYS_waitid, (long)(which > 0 ? P_PID : P_ALL), (long)(which > 0 ? which : 0), ended,
-                          (long)(WEXITED | WNOWAIT | options), NULL) == 0;
+    return system_syscall(SYS_waitid, kind, number, ended, (long)(WEXITED | WNOWAIT | options), NULL) == 0;
 }
 
 /* Whether natively no other process and no other thread can have what this one has open: there was never any. */
@@ -609,12 +611,13 @@ enum { STATUS_IS_ASKED = 8, WATCHES = 512 };
 #define ASKS_OF_PROCESS _IOWR(0xff, 11, struct told_end)
 
 /* The children that fork has made last, by the numbers of the system and their own. In a native run a descriptor
-   watches each, where its number is above 0, and the kernel gives the file of that a number. */
+   watches each, where its number is above 0, and the kernel gives the file of that a number. Each is there until it is
+   seen that a wait has taken it. */
 enum { CHILDREN = 64 };
 static struct child {
     pid_t in_system;
     long number;
-    int watch;
+    int watch, is_there;
     unsigned long long file;
 } children[CHILDREN];
 
@@ -654,10 +657,13 @@ static void keep_child(pid_t in_system, long number)
 {
     static int kept;
     for (int at = 0; at < CHILDREN; at++)
-        children[at].in_system = children[at].in_system == in_system ? 0 : children[at].in_system;
+        if (children[at].in_system == in_system)
+            children[at].in_system = children[at].is_there = 0;
+    has_others |= children[kept].is_there;
     unwatch(&children[kept]);
     children[kept].in_system = in_system;
     children[kept].number = number;
+    children[kept].is_there = 1;
     watch(&children[kept]);
     kept = (kept + 1) % CHILDREN;
 }
@@ -673,13 +679,45 @@ static struct child *child_of(pid_t in_system)
 /* Its number of its own, or -1 where it is not known. */
 static long number_of(pid_t in_system) { return child_of(in_system) ? child_of(in_system)->number : -1; }
 
+/* Whether a child is watched, by what the program has not closed. */
+static int is_watched(const struct child *it) { return it->watch > 0 && inode_in_kernel(it->watch) == it->file; }
+
+/* Whether the kernel keeps how a child has ended that is watched, as Linux does from 6.15 on. */
+static int keeps_ends(void)
+{
+    static int is_keeping = -1;
+    struct utsname told;
+    char *rest = told.release;
+    long first = 0, second = 0;
+    if (is_keeping < 0 && system_syscall(SYS_uname, &told) == 0) {
+        first = strtol(rest, &rest, 10);
+        second = *rest == '.' ? strtol(rest + 1, NULL, 10) : 0;
+    }
+    if (is_keeping < 0)
+        is_keeping = first > 6 || (first == 6 && second >= 15);
+    return is_keeping;
+}
+
+/* Finds which of the children are not there any more, and gives the first of them, or 0. */
+static pid_t first_gone(void)
+{
+    siginfo_t ended;
+    pid_t first = 0;
+    for (int at = 0; at < CHILDREN; at++)
+        if (children[at].is_there && !has_child(children[at].in_system, &ended, WNOHANG) && errno == ECHILD) {
+            children[at].is_there = 0;
+            first = first ? first : children[at].in_system;
+        }
+    return first;
+}
+
 /* The status that the kernel keeps of a child which a wait has told, or -1 where it is not known. */
 static int kept_status(pid_t in_system)
 {
     struct child *it = child_of(in_system);
     struct told_end told = {STATUS_IS_ASKED, 0, {0}, 0};
     int error = errno, is_told;
-    if (!it || it->watch <= 0 || inode_in_kernel(it->watch) != it->file)
+    if (!it || !is_watched(it))
         return -1;
     is_told = system_syscall(SYS_ioctl, (long)it->watch, (unsigned long)ASKS_OF_PROCESS, &told) == 0;
     errno = error;
@@ -788,8 +826,11 @@ static void begin_child(uint32_t number)
     forget_threads();
     forget_others();
     note_handlers();
-    for (int at = 0; at < CHILDREN; at++)
+    for (int at = 0; at < CHILDREN; at++) {
         unwatch(&children[at]);
+        children[at].in_system = children[at].is_there = 0;
+    }
+    has_others = 0;
 }
 
 static void know_child(const struct forking *it, pid_t made, uint32_t number)
@@ -797,6 +838,18 @@ static void know_child(const struct forking *it, pid_t made, uint32_t number)
     if (!check_forked(made))
         compare_forked(it, made, say_forked(shared->told_forks, shared->own_forks, it->which, made));
     keep_child(made, (long)number);
+}
+
+/* Looks before the first fork of a program whether another program has left children to it. */
+static void find_others(void)
+{
+    static int is_found;
+    siginfo_t ended;
+    int error = errno;
+    if (!is_found && is_watching())
+        has_others |= has_child(-1, &ended, WNOHANG) || errno != ECHILD;
+    is_found = 1;
+    errno = error;
 }
 
 static pid_t fork_natively(pid_t (*next)(void))
@@ -807,6 +860,7 @@ static pid_t fork_natively(pid_t (*next)(void))
     pid_t made;
     int error, is_child;
     begin_call();
+    find_others();
     number = __atomic_fetch_add(&shared->next_number, 1, __ATOMIC_SEQ_CST);
     WITHIN_OF("fork", made, next());
     error = errno;
@@ -876,16 +930,18 @@ static pid_t ended_child(pid_t child, int status)
 /* ---- what a native wait tells, beside what the kernel tells of the children */
 
 /* A wait for a child, or any: -1, or one of a group: 0 or below. What had ended before is known where the kernel has told
-   it, and that there was no child where no other thread waits for one. Beside others a handler may have been set while
-   the kernel was asked, which has ended that, and so ends the wait. In one thread the kernel is asked again where a
-   handler has run meanwhile, which may have taken that child. */
+   it, and that there was no child where no other thread waits for one. The system's function is to wait itself, which
+   is seen while the children live. So it is called then, where the kernel keeps how they end. Else the kernel is let
+   wait before it, and whether the function waits is not seen. Beside others a handler may have been set while the
+   kernel was asked, which has ended that, and so ends the wait. In one thread the kernel is asked again where a handler
+   has run meanwhile, which may have taken that child. */
 struct waiting {
     const char *name;
     pid_t which, child;
-    int is_known, is_of_group, is_one, is_childless, is_ended, options, code, status;
+    int is_known, is_of_group, is_one, is_childless, is_there, is_unseen, is_ended, options, code, status;
     unsigned runs;
 };
-enum { KNOWN_OPTIONS = WNOHANG | WUNTRACED | WCONTINUED };
+enum { KNOWN_OPTIONS = WNOHANG | WUNTRACED | WCONTINUED, NOT_NUMBERED = INT_MIN };
 
 static int has_ending_handler(void)
 {
@@ -895,8 +951,24 @@ static int has_ending_handler(void)
     return number < NSIG;
 }
 
-/* Whether the kernel may be let wait before the system's function does: no handler ends that. */
-static int may_wait(int options) { return options == 0 && !has_ending_handler(); }
+/* Whether the kernel keeps the end of each child that a wait may take. */
+static int are_ends_kept(pid_t which)
+{
+    if (!keeps_ends() || (which == -1 && has_others))
+        return 0;
+    if (which > 0)
+        return child_of(which) && is_watched(child_of(which));
+    for (int at = 0; at < CHILDREN; at++)
+        if (children[at].is_there && !is_watched(&children[at]))
+            return 0;
+    return 1;
+}
+
+/* Whether the kernel is to be let wait before the system's function does, and may: no handler ends that. */
+static int may_wait(pid_t which, int options)
+{
+    return options == 0 && !has_ending_handler() && !are_ends_kept(which);
+}
 
 /* Asks the kernel beside other threads, where a wait may be cancelled. */
 static int has_child_beside(pid_t which, siginfo_t *ended, int options)
@@ -912,19 +984,25 @@ static int has_child_beside(pid_t which, siginfo_t *ended, int options)
 
 static struct waiting begin_waiting(const char *name, pid_t which, int options)
 {
-    struct waiting it = {name, which, 0, 0, 0, 0, 0, 0, options, 0, 0, runs};
+    struct waiting it = {name, which, 0, 0, 0, 0, 0, 0, 0, 0, options, 0, 0, runs};
     siginfo_t ended;
     int error = errno, is_there = 0;
     int is_seen = is_watching() && (options & ~KNOWN_OPTIONS) == 0;
     it.is_known = is_seen && (which > 0 || which == -1);
     it.is_of_group = is_seen && !it.is_known;
     it.is_one = is_seen && is_alone();
+    if (it.is_one)
+        first_gone();
     if (it.is_known)
         do {
-            int before = may_wait(options) ? 0 : WNOHANG;
             it.runs = runs;
-            is_there = it.is_one ? has_child(which, &ended, before) : has_child_beside(which, &ended, before);
+            is_there = has_child(which, &ended, WNOHANG);
+            it.is_unseen = is_there && ended.si_pid == 0 && may_wait(which, options);
+            if (it.is_unseen)
+                is_there = it.is_one ? has_child(which, &ended, 0) : has_child_beside(which, &ended, 0);
         } while (it.is_one && is_there && it.runs != runs);
+    else if (it.is_of_group && which != NOT_NUMBERED)
+        it.is_there = has_child(which, &ended, WNOHANG);
     if (is_there) {
         it.child = ended.si_pid;
         it.code = ended.si_code;
@@ -985,10 +1063,26 @@ static int has_found_end(const struct waiting *it)
 static int is_no_child(const struct waiting *it, pid_t child)
 {
     siginfo_t ended;
+    pid_t gone;
     if (child == (pid_t)system_syscall(SYS_getpid))
         return 1;
-    return it->is_one && has_found_end(it) && child != it->child && it->runs == runs && !is_heard_elsewhere()
-           && !has_child(it->child, &ended, WNOHANG) && errno == ECHILD;
+    if (!it->is_one || it->runs != runs || is_heard_elsewhere())
+        return 0;
+    if (has_found_end(it))
+        return child != it->child && !has_child(it->child, &ended, WNOHANG) && errno == ECHILD;
+    gone = are_kept() ? first_gone() : 0;
+    return gone > 0 && child != gone;
+}
+
+/* Whether a child is not there after a wait that has told no end of it: it has taken what it found before, or one that
+   fork has made. */
+static int is_end_untold(const struct waiting *it, pid_t child)
+{
+    siginfo_t ended;
+    if (has_found_end(it))
+        return child == it->child;
+    return it->is_one && it->runs == runs && !is_heard_elsewhere() && are_kept() && child_of(child)
+           && !has_child(child, &ended, WNOHANG) && errno == ECHILD;
 }
 
 /* Why the kernel has told nothing of the end of a child. */
@@ -999,6 +1093,14 @@ static const char *why_unlooked(const struct waiting *it)
     if (!it->is_one)
         return "the process has threads";
     return has_ending_handler() ? "a handler is set that ends calls" : "it ended meanwhile";
+}
+
+/* Why the kernel was let wait before a wait. */
+static const char *why_unseen(const struct waiting *it)
+{
+    if (!keeps_ends())
+        return "before Linux 6.15 no end of a child is kept";
+    return it->is_one ? "a child is not watched" : "the process has threads";
 }
 
 /* Notes that a native wait has told a child that has stopped or goes on, by which signal the kernel tells but once. */
@@ -1027,7 +1129,7 @@ static void check_ended(const struct waiting *it, pid_t child, int status)
         return;
     }
     if (!WIFEXITED(status) && !WIFSIGNALED(status)) {
-        if (has_found_end(it) && child == it->child)
+        if (is_end_untold(it, child))
             note_wrong(it->name, "has told no end of a child that has ended");
         else
             note_stopped(it->name, status);
@@ -1061,11 +1163,13 @@ static void check_failed(const struct waiting *it, int error)
 {
     char text[80];
     siginfo_t ended;
+    /* a child of a group may come to be in it meanwhile */
+    int may_be_there = it->is_known || (it->is_there && it->runs == runs);
     if (error == EINTR && it->runs == runs && !is_heard_elsewhere())
         note_wrong(it->name, "has failed with EINTR, and no handler has run");
-    else if (error != EINTR && is_alone() && has_child(it->which, &ended, WNOHANG))
+    else if (error != EINTR && may_be_there && is_alone() && has_child(it->which, &ended, WNOHANG))
         note_wrong(it->name, "has failed, and there is such a child");
-    else if (error != EINTR && error != ECHILD && is_alone()) {
+    else if (error != EINTR && error != ECHILD && it->is_known && is_alone()) {
         snprintf(text, sizeof text, "has failed with error %d, and ECHILD is due", error);
         note_wrong(it->name, text);
     }
@@ -1078,12 +1182,14 @@ static void check_wait(const struct waiting *it, pid_t child, int status)
         note_wrong(it->name, "has not failed, and there is no such child");
     else if ((it->is_known || it->is_of_group) && child > 0)
         check_ended(it, child, status);
-    else if (it->is_known && child == 0 && (it->options & WNOHANG) == 0)
+    else if (is_watching() && child == 0 && (it->options & WNOHANG) == 0)
         note_wrong(it->name, "has told of no child, without WNOHANG");
     else if (it->is_known && it->is_one && child == 0 && it->child > 0 && it->runs == runs)
         note_wrong(it->name, "has told of no child, and one has ended");
-    else if (it->is_known && child < 0)
+    else if ((it->is_known || it->is_of_group) && child < 0)
         check_failed(it, error);
+    if (it->is_unseen && child > 0)
+        notes("unwaited", it->name, why_unseen(it));
     errno = error;
 }
 
@@ -1130,6 +1236,16 @@ static int status_in(const siginfo_t *told)
     return told->si_code == CLD_EXITED ? (told->si_status & 255) << 8 : told->si_status & 127;
 }
 
+/* What waitpid calls what waitid is to wait for. */
+static pid_t waited_for(idtype_t kind, id_t which)
+{
+    if (kind == P_ALL)
+        return -1;
+    if (kind == P_PID && (pid_t)which > 0)
+        return (pid_t)which;
+    return kind == P_PGID && (pid_t)which >= 0 && which != 1 ? -(pid_t)which : NOT_NUMBERED;
+}
+
 int waitid(idtype_t kind, id_t which, siginfo_t *given, int options)
 {
     static __typeof__(&waitid) next;
@@ -1142,10 +1258,11 @@ int waitid(idtype_t kind, id_t which, siginfo_t *given, int options)
     prepare();
     memset(&own, 0, sizeof own);
     /* without WEXITED no end is waited for */
-    waiting = begin_waiting("waitid", kind == P_PID ? (pid_t)which : kind == P_ALL ? -1 : 0,
+    waiting = begin_waiting("waitid", waited_for(kind, which),
                             options & WEXITED ? options & ~WEXITED : options | WNOHANG);
     if (waiting.is_ended)
         return -1;
+    waiting.options = options;
     if ((options & (WEXITED | WNOWAIT)) != WEXITED)
         waiting.is_known = waiting.is_of_group = 0;
     WAITING(done, (pid_t)which, next(kind, which, to, options));

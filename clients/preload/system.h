@@ -220,12 +220,15 @@ static void note_past(char mark, uint64_t place, uint32_t number, const char *ki
     append(past_file, "what goes past fdref", text, size);
 }
 
-/* How often a name may have gone from its file, natively. */
+/* How often a name may have gone from its file, natively; and whether there may be children that fork has not made, or
+   that have been forgotten. */
 static unsigned names_gone;
+static int has_others;
 
 static void goes_past(char mark, const char *kind, const char *what, const char *of)
 {
     names_gone++;
+    has_others |= strcmp(kind, "program") == 0 || strstr(what, "clone");
     if (how == ASKED && process)
         note_past(mark, process->place, (uint32_t)process->number, kind, what, of);
 }

@@ -209,6 +209,60 @@ static void await_beside(void)
     pthread_join(thread, NULL);
 }
 
+/* A child exits with a status after a while, in which its parent has come to wait for it in one of several ways. */
+static pid_t leave_late(void)
+{
+    pid_t child = fork();
+    if (child != 0)
+        return child;
+    usleep(300000);
+    _exit(7);
+}
+
+static void await_late(void)
+{
+    leave_late();
+    wait(NULL);
+}
+
+static void await_late_any(void)
+{
+    int status;
+    leave_late();
+    waitpid(-1, &status, 0);
+}
+
+static void await_late_one(void)
+{
+    int status;
+    waitpid(leave_late(), &status, 0);
+}
+
+static void await_late_used(void)
+{
+    int status;
+    leave_late();
+    wait4(-1, &status, 0, NULL);
+}
+
+static void await_late_told(void)
+{
+    siginfo_t told;
+    leave_late();
+    waitid(P_ALL, 0, &told, WEXITED);
+}
+
+/* The group is this one. */
+static void await_late_group(void)
+{
+    int status;
+    leave_late();
+    waitpid(0, &status, 0);
+}
+
+static void do_beside(void (*does)(void));
+static void await_late_beside(void) { do_beside(await_late_any); }
+
 /* A child exits with a status, and each wait for any takes it. */
 static void leave(void)
 {
@@ -307,6 +361,36 @@ static void await_handled(void)
         leave();
     while (wait(NULL) > 0)
         continue;
+}
+
+/* A handler runs that restarts the wait, which takes the children as they end: by a signal, with a status, and in a
+   group of their own. */
+static void await_restarted(void)
+{
+    struct sigaction action;
+    siginfo_t told;
+    int status;
+    pid_t parent = getpid(), child = fork();
+    memset(&action, 0, sizeof action);
+    action.sa_handler = hear;
+    action.sa_flags = SA_RESTART;
+    sigaction(SIGUSR1, &action, NULL);
+    if (child == 0) {
+        usleep(100000);
+        kill(parent, SIGUSR1);
+        usleep(100000);
+        raise(SIGKILL);
+    }
+    if (waitpid(child, &status, 0) != child || !WIFSIGNALED(status))
+        exit(1);
+    child = leave_late();
+    setpgid(child, child);
+    if (waitpid(-child, &status, 0) != child || WEXITSTATUS(status) != 7)
+        exit(1);
+    child = leave_late();
+    setpgid(child, child);
+    if (waitid(P_PGID, (id_t)child, &told, WEXITED) != 0 || told.si_pid != child || wait(NULL) != -1)
+        exit(1);
 }
 
 static void *take_all(void *data)
@@ -827,6 +911,11 @@ int main(int count, char **words)
         {"set-one", set_flags},
         {"wait-killed-heard", await_heard}, {"wait-killed-beside", await_beside},
         {"wait-killed-asked", await_asked}, {"wait-killed-group", await_group},
+        {"hasty-wait", await_late},     {"hasty-waitpid", await_late_any},
+        {"hasty-one", await_late_one},  {"hasty-wait4", await_late_used},
+        {"hasty-waitid", await_late_told}, {"hasty-group", await_late_group},
+        {"hasty-beside", await_late_beside}, {"none-group", await_late_group},
+        {"more-late", await_late},      {"restarted", await_restarted},
         {"more-wait", await_one},       {"more-waitpid", await_any},
         {"more-wait4", await_used},     {"more-waitid", await_told},
         {"self-wait", await_one},       {"self-beside", await_self_beside},

@@ -39,10 +39,16 @@
    wait-killed-beside  the same, beside a thread
    wait-killed-asked   the same, by WNOHANG
    wait-killed-group   the same, of a group
+   hasty-NAME      wait, waitpid, wait4 or waitid does not wait
+   hasty-one       the same of waitpid for one child
+   hasty-group     the same for a group
+   hasty-beside    the same, beside a thread
+   none-group      waitpid is ECHILD
    more-wait       wait tells the number after that of the child
    more-waitpid    the same of waitpid
    more-wait4      the same of wait4
    more-waitid     the same of waitid
+   more-late       the same of wait for a child that lives
    self-wait       wait tells the process that calls it
    self-beside     the same beside a thread
    ended-stopped   waitpid tells that a child that has ended has stopped
@@ -279,16 +285,19 @@ static pid_t told_for(long child)
     return (pid_t)child + (child > 0 && begins_wrong("more-"));
 }
 
-pid_t wait(int *status) { return told_for(syscall(SYS_wait4, -1, status, 0, NULL)); }
+/* How a wait is made: without a stay. */
+static int hastened(int options) { return begins_wrong("hasty-") ? options | WNOHANG : options; }
+
+pid_t wait(int *status) { return told_for(syscall(SYS_wait4, -1, status, hastened(0), NULL)); }
 
 pid_t wait4(pid_t which, int *status, int options, struct rusage *used)
 {
-    return told_for(syscall(SYS_wait4, which, status, options, used));
+    return told_for(syscall(SYS_wait4, which, status, hastened(options), used));
 }
 
 int waitid(idtype_t kind, id_t which, siginfo_t *told, int options)
 {
-    int done = (int)syscall(SYS_waitid, kind, which, told, options, NULL);
+    int done = (int)syscall(SYS_waitid, kind, which, told, hastened(options), NULL);
     if (done == 0 && told)
         told->si_pid = told_for(told->si_pid);
     if (done < 0 && is_wrong("waitid-any") && told)
@@ -301,12 +310,12 @@ int waitid(idtype_t kind, id_t which, siginfo_t *told, int options)
 pid_t waitpid(pid_t which, int *status, int options)
 {
     long done = which;
-    if (is_wrong("wait-none"))
+    if (is_wrong("wait-none") || is_wrong("none-group")) {
         errno = ECHILD;
-    if (is_wrong("wait-none"))
         return -1;
+    }
     if (!is_wrong("wait-early"))
-        done = syscall(SYS_wait4, which, is_wrong("ended-unstored") ? NULL : status, options, NULL);
+        done = syscall(SYS_wait4, which, is_wrong("ended-unstored") ? NULL : status, hastened(options), NULL);
     if (done > 0 && (is_wrong("ended-stopped") || is_wrong("ended-continued")))
         *status = is_wrong("ended-stopped") ? SIGSTOP << 8 | 0x7f : 0xffff;
     if (done > 0 && is_wrong("stop-other") && WIFSTOPPED(*status))

@@ -541,6 +541,16 @@ TRIES = 3
 NOT_DECIDED = b"not decided is whether the order of the calls explains it"
 
 
+AGREEMENT = "verdict: agreement"
+AGREES = f"{AGREEMENT}: no answer differs"
+
+
+def agreeing(start: str) -> str:
+    """How the last line begins where it tells an agreement: where the kernel keeps no child's end, it may also tell that
+    whether a wait waits was not compared."""
+    return AGREEMENT if start.startswith(f"{AGREEMENT}: ") and not are_ends_kept() else start
+
+
 def is_said(bench: Bench, judged: Judged) -> None:
     """Just this is said of a program. A judging that says that an order was not decided on in time is made again."""
     program = bench.compiled(f"judge_{judged.name}")
@@ -551,7 +561,7 @@ def is_said(bench: Bench, judged: Judged) -> None:
     same((judged.status, judged.stderr), (ran.status, ran.stderr))
     lines = ran.stdout.decode("ascii").splitlines()
     rest = iter(lines)
-    for start in judged.lines:
+    for start in map(agreeing, judged.lines):
         is_there = any(line.startswith(start) for line in rest)
         require(is_there, f"no line begins with {start!r} in its place in\n" + "\n".join(lines))
 
@@ -584,6 +594,9 @@ def cases(bench: Bench) -> Iterator[Case]:
         yield f"a call that is not compared: {word}", partial(leaves_open, bench, word, told)
     for word, why in ENDS_KEPT.items():
         yield f"a child's end that the kernel keeps: {word}", partial(compares_ends, bench, word, why)
+    for word, name in HASTY.items():
+        yield f"a wait that does not wait: {word}", partial(finds_hasty_waits, bench, word, name)
+    yield "a wait that does not wait, beside a thread", partial(tells_unwaited, bench)
     yield "a child's end beside a handler that ends calls", partial(loses_beside_handlers, bench)
     yield "a read into parts that overlap", partial(excuses_waits, bench, "over")
     for word in RIGHT_WAITS:
@@ -690,7 +703,8 @@ def kills_late(bench: Bench) -> None:
         ran = bench.judged("--shim", bench.shim(), *LATE, bench.compiled("judge_signals"), "late")
         last = ran.stdout.decode("ascii").splitlines()[-1]
         if ran.status == 0:
-            same((b"", "verdict: agreement: no answer differs"), (ran.stderr, last))
+            same(b"", ran.stderr)
+            require(last.startswith(agreeing(AGREES)), ran.said())
         else:
             same((3, f"judge.py: {told}\n"), (ran.status, ran.stderr.decode("utf-8")))
             cause = "signal 9, by which a child ended that fdref may have kept for longer"
@@ -800,6 +814,7 @@ WRONGED = {
     "wait-status": f"{OF_SYSTEM}p0 waitpid: has told that a child has exited with 0, which has called _exit(7)",
     "wait-early": f"{OF_SYSTEM}p0 waitpid: has told the end of a child that is still there",
     "wait-none": f"{OF_SYSTEM}p0 waitpid: has failed, and there is such a child",
+    "none-group": f"{OF_SYSTEM}p0 waitpid: has failed, and there is such a child",
     "wait-killed": f"{OF_SYSTEM}p0 waitpid: has told otherwise how a child has ended",
     "wait-signal": f"{OF_SYSTEM}p0 waitpid: has failed with EINTR, and no handler has run",
     "wait-refused": f"{OF_SYSTEM}p0 waitpid: has failed with error 22, and ECHILD is due",
@@ -809,6 +824,7 @@ WRONGED = {
         f"more-{name}": f"{OF_SYSTEM}p0 {name}: has told a process that is no child"
         for name in ("wait", "waitpid", "wait4", "waitid")
     },
+    "more-late": f"{OF_SYSTEM}p0 wait: has told a process that is no child",
     "self-wait": f"{OF_SYSTEM}p0 wait: has told a process that is no child",
     "self-beside": f"{OF_SYSTEM}p0 wait: has told a process that is no child",
     "ended-stopped": f"{OF_SYSTEM}p0 waitpid: has told no end of a child that has ended",
@@ -1016,6 +1032,38 @@ def compares_ends(bench: Bench, word: str, why: str) -> None:
         same((0, told, f"{NOT_ALL}; not compared: how a child ended"), (ran.status, lines[-3], lines[-1]))
 
 
+# Functions that do not wait, by what is wrong.
+HASTY = {
+    "hasty-wait": "wait",
+    "hasty-waitpid": "waitpid",
+    "hasty-one": "waitpid",
+    "hasty-wait4": "wait4",
+    "hasty-waitid": "waitid",
+    "hasty-group": "waitpid",
+}
+UNWAITED = "not compared: whether a wait for a child waits"
+
+
+def finds_hasty_waits(bench: Bench, word: str, name: str) -> None:
+    """A wait that does not wait is found while its child lives, where the kernel keeps how that ends; else it is told
+    that it was not compared. Of a group no end is asked for before."""
+    ran = judged_wronged(bench, word)
+    last = ran.stdout.decode("ascii").splitlines()[-1]
+    if are_ends_kept() or word == "hasty-group":
+        same((1, f"{OF_SYSTEM}p0 {name}: has told of no child, without WNOHANG"), (ran.status, last))
+    else:
+        same((0, f"{NOT_ALL}; {UNWAITED}"), (ran.status, last))
+
+
+def tells_unwaited(bench: Bench) -> None:
+    """So it is told of a child that was made beside threads, which is not watched."""
+    ran = judged_wronged(bench, "hasty-beside")
+    lines = ran.stdout.decode("ascii").splitlines()
+    why = "the process has threads" if are_ends_kept() else "before Linux 6.15 no end of a child is kept"
+    require(f"{UNWAITED}, as waitpid ({why})" in lines, ran.said())
+    same((0, f"{NOT_ALL}; {UNWAITED}"), (ran.status, lines[-1]))
+
+
 def loses_beside_handlers(bench: Bench) -> None:
     """The same of a system that is right."""
     ran = bench.judged("--shim", bench.shim(), bench.compiled("judge_signals"), "loses")
@@ -1023,9 +1071,8 @@ def loses_beside_handlers(bench: Bench) -> None:
     same((0, last), (ran.status, ran.stdout.decode("ascii").splitlines()[-1]))
 
 
-AGREES = "verdict: agreement: no answer differs"
 # Waits of a program of judge_wronged beside a handler that waits, in two threads, and for a child that stops.
-RIGHT_WAITS = ("handled", "by-two", "stopped", "none-yet")
+RIGHT_WAITS = ("handled", "by-two", "stopped", "none-yet", "restarted")
 
 
 def excuses_waits(bench: Bench, word: str) -> None:
