@@ -47,8 +47,8 @@ static int seen(int fd, int done, mode_t mode, uint64_t size, uint32_t links)
     return (int)ALONE(note(fdref_act_fstat(fd), fdref_told(kind, size, links), done));
 }
 
-/* Notes what was told of such a name. */
-static void note_look(int done, mode_t mode, uint64_t size, uint64_t links)
+/* Notes what was told of such a name, by stat or by statx. */
+static void note_look(const char *by, int done, mode_t mode, uint64_t size, uint64_t links)
 {
     char text[FDREF_NAME_MOST + 80];
     int error = errno;
@@ -59,7 +59,7 @@ static void note_look(int done, mode_t mode, uint64_t size, uint64_t links)
                  (unsigned long long)links);
     else
         snprintf(text, sizeof text, "%s = %s", looked_at, S_ISFIFO(mode) ? "fifo" : "other");
-    notes("look", "stat", text);
+    notes("look", by, text);
     errno = error;
 }
 
@@ -142,12 +142,29 @@ static void check_named(const char *name, const char *path, uint64_t device, uin
     errno = error;
 }
 
+/* The same of a descriptor that no name has led to, and no handler can have led elsewhere. */
+static void check_led(const char *name, int fd, uint64_t device, uint64_t number, unsigned runs_before)
+{
+    if (runs == runs_before && !is_heard_elsewhere())
+        check_file(name, fd, device, number);
+}
+
+/* Whether a call looks at a descriptor of fdref itself, which is noted by its number then. */
+static int is_by_number(int folder, const char *name, int flags)
+{
+    static __thread char number[12];
+    int is_numbered = !is_behind && slot_of(folder).held == OURS && name && *name == 0 && (flags & AT_EMPTY_PATH) != 0;
+    snprintf(number, sizeof number, "%d", folder);
+    looked_at = is_numbered ? number : looked_at;
+    return is_numbered;
+}
+
 #define LOOKS(function, parameters, words, folder, flags) \
     int function parameters \
     { \
         NEXT_OF(function); \
         struct file file; \
-        unsigned gone_before = names_gone; \
+        unsigned gone_before = names_gone, runs_before = runs; \
         int done; \
         if (IS_INNER) \
             return next words; \
@@ -158,8 +175,10 @@ static void check_named(const char *name, const char *path, uint64_t device, uin
             WITHIN(done, next words); \
         if (looked_at && done == 0) \
             check_named(#function, looked_at, to->st_dev, to->st_ino, gone_before); \
+        if (is_by_number(folder, name, flags) && done == 0) \
+            check_led(#function, folder, to->st_dev, to->st_ino, runs_before); \
         if (looked_at) \
-            note_look(done, done < 0 ? 0 : to->st_mode, done < 0 ? 0 : (uint64_t)to->st_size, \
+            note_look("stat", done, done < 0 ? 0 : to->st_mode, done < 0 ? 0 : (uint64_t)to->st_size, \
                       done < 0 ? 0 : (uint64_t)to->st_nlink); \
         looked_at = NULL; \
         return done; \

@@ -18,11 +18,22 @@ static void fill_statx(struct statx *to, const struct file *file)
     to->stx_dev_minor = (uint32_t)plainly.st_dev;
 }
 
+/* The number of a device, as stat has it. */
+static uint64_t device_in(const struct statx *told)
+{
+    uint64_t major = told->stx_dev_major, minor = told->stx_dev_minor;
+    return (major & 0xfff) << 8 | (major & ~UINT64_C(0xfff)) << 32 | (minor & 0xff) | (minor & ~UINT64_C(0xff)) << 12;
+}
+
+/* What statx has to tell, so that it is compared as what stat tells. */
+enum { TOLD_BY_STAT = STATX_TYPE | STATX_SIZE | STATX_NLINK };
+
 int statx(int folder, const char *name, int flags, unsigned wanted, struct statx *to)
 {
     NEXT_OF(statx);
     struct file file;
-    int done;
+    unsigned gone_before = names_gone, runs_before = runs;
+    int done, is_numbered;
     if (IS_INNER)
         return next(folder, name, flags, wanted, to);
     done = look("statx", folder, name, flags, &file);
@@ -30,6 +41,15 @@ int statx(int folder, const char *name, int flags, unsigned wanted, struct statx
         fill_statx(to, &file);
     if (done > 0)
         WITHIN(done, next(folder, name, flags, wanted, to));
+    is_numbered = done == 0 && (wanted & STATX_INO) != 0 && (to->stx_mask & STATX_INO) != 0;
+    if (looked_at && is_numbered)
+        check_named("statx", looked_at, device_in(to), to->stx_ino, gone_before);
+    if (is_by_number(folder, name, flags) && is_numbered)
+        check_led("statx", folder, device_in(to), to->stx_ino, runs_before);
+    if (looked_at && (wanted & TOLD_BY_STAT) == TOLD_BY_STAT)
+        note_look("statx", done, done < 0 ? 0 : to->stx_mode, done < 0 ? 0 : to->stx_size,
+                  done < 0 ? 0 : to->stx_nlink);
+    looked_at = NULL;
     return done;
 }
 

@@ -551,6 +551,33 @@ static void ask_for_names(void)
     stat("d", &told);
 }
 
+/* Asks so by statx, which tells as much of a descriptor: of two of one file, and of another one. */
+static void ask_by_statx(void)
+{
+    struct stat plainly;
+    struct statx told[3];
+    int fd = open("a", O_RDWR | O_CREAT, 0600), other = open("b", O_RDWR | O_CREAT, 0600);
+    if (fstat(other, &plainly) != 0 || statx(fd, "", AT_EMPTY_PATH, STATX_BASIC_STATS, told) != 0
+        || statx(other, "", AT_EMPTY_PATH, STATX_BASIC_STATS, told + 1) != 0
+        || statx(dup(fd), "", AT_EMPTY_PATH, STATX_INO, told + 2) != 0)
+        exit(1);
+    fstat(fd, &plainly);
+}
+
+/* The same of names. */
+static void ask_names_by_statx(void)
+{
+    struct statx told;
+    close(open("a", O_RDWR | O_CREAT, 0600));
+    close(open("b", O_RDWR | O_CREAT, 0600));
+    if (link("a", "c") != 0)
+        exit(1);
+    statx(AT_FDCWD, "a", 0, STATX_BASIC_STATS, &told);
+    statx(AT_FDCWD, "c", AT_SYMLINK_NOFOLLOW, STATX_BASIC_STATS, &told);
+    statx(AT_FDCWD, "b", 0, STATX_BASIC_STATS, &told);
+    statx(AT_FDCWD, "d", 0, STATX_BASIC_STATS, &told);
+}
+
 /* Opens both ends of a FIFO. */
 static void open_both(void)
 {
@@ -954,7 +981,9 @@ int main(int count, char **words)
         {"ino-apart", ask_files},       {"ino-same", ask_files},
         {"fifo-early", open_fifo},      {"fifo-regular", open_both},
         {"file-apart", ask_for_files},  {"file-same", ask_for_files},
-        {"names", ask_for_names},
+        {"names", ask_for_names},       {"names-by-statx", ask_names_by_statx},
+        {"statx-apart", ask_by_statx},  {"statx-same", ask_by_statx},
+        {"statx-size", ask_names_by_statx}, {"statx-sized", ask_by_statx},
         {"exec-error", run_nothing},    {"exec-unlike", run_folder},
         {"real-dup", copy_real},        {"real-refused", copy_real},
         {"real-dup2", copy_real},       {"over", read_over},

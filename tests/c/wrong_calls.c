@@ -74,6 +74,10 @@
    ino-same        fstat tells the same st_ino of all
    file-apart      fstat and stat tell another st_ino each time
    file-same       fstat and stat tell the same st_ino of all
+   statx-apart     statx tells another st_ino each time
+   statx-same      statx tells the same st_ino of all
+   statx-size      statx tells a byte more
+   statx-sized     the same
    fifo-regular    mkfifo makes a regular file
    fifo-early      an open of a FIFO to write waits for nobody
    restart-lost    sigaction sets no SA_RESTART
@@ -532,6 +536,19 @@ int fstat(int fd, struct stat *to)
     if (done == 0)
         tell_file(to);
     return (int)given_by("fstat", done);
+}
+
+int statx(int folder, const char *name, int flags, unsigned wanted, struct statx *to)
+{
+    static unsigned looks;
+    int done = (int)syscall(SYS_statx, folder, name, flags, wanted, to);
+    if (done == 0 && is_wrong("statx-apart"))
+        to->stx_ino += 1000 * ++looks;
+    if (done == 0 && is_wrong("statx-same"))
+        to->stx_ino = 1;
+    if (done == 0 && begins_wrong("statx-size"))
+        to->stx_size++;
+    return done;
 }
 
 int stat(const char *name, struct stat *to)

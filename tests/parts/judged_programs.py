@@ -848,6 +848,10 @@ WRONGED = {
     "ino-same": f"{OF_SYSTEM}p0 fstat: tells one file where there are two",
     "file-apart": f"{OF_SYSTEM}p0 fstat: tells two files where there is one",
     "file-same": f"{OF_SYSTEM}p0 fstat: tells one file where there are two",
+    "statx-apart": f"{OF_SYSTEM}p0 statx: tells two files where there is one",
+    "statx-same": f"{OF_SYSTEM}p0 statx: tells one file where there are two",
+    "statx-sized": "verdict: a difference: statx tells otherwise: system: 5 = regular 1 1, fdref: 5 = regular 0 1",
+    "statx-size": "verdict: a difference: statx tells otherwise: system: a = regular 1 2, fdref: a = regular 0 2",
     "fifo-regular": f"{OF_SYSTEM}p0 mkfifo: has made no FIFO, as lstat tells",
     "exec-error": f"{OF_SYSTEM}p0 execv: has failed with error {errno.EIO}, and ENOENT is due",
     "seek-crashes": f"{DIFFERS}p0 lseek 5 0 set has not come back on the system, where signal 11 (SIGSEGV) ended it",
@@ -926,13 +930,16 @@ def names_files(bench: Bench) -> None:
     """The st_ino that stat tells of names is compared, too."""
     program, library = bench.compiled("judge_wronged"), bench.path("wrong.so")
     judged_wronged(bench, "file-same")
-    tells = f"{OF_SYSTEM}p0 stat: tells "
-    for wrong, line in (
-        ("none", NOT_ALL),
-        ("file-apart", f"{tells}two files where there is one"),
-        ("file-same", f"{tells}one file where there are two"),
+    stat_tells, statx_tells = f"{OF_SYSTEM}p0 stat: tells ", f"{OF_SYSTEM}p0 statx: tells "
+    for wrong, way, line in (
+        ("none", "names", NOT_ALL),
+        ("file-apart", "names", f"{stat_tells}two files where there is one"),
+        ("file-same", "names", f"{stat_tells}one file where there are two"),
+        ("none", "names-by-statx", NOT_ALL),
+        ("statx-apart", "names-by-statx", f"{statx_tells}two files where there is one"),
+        ("statx-same", "names-by-statx", f"{statx_tells}one file where there are two"),
     ):
-        words = ("--shim", bench.shim(), "--preload", library, program, "names")
+        words = ("--shim", bench.shim(), "--preload", library, program, way)
         ran = bench.judged(*words, variables=(f"WRONG={wrong}",))
         require(ran.stdout.decode("ascii").splitlines()[-1].startswith(line), ran.said())
 
