@@ -112,7 +112,7 @@ from types import FrameType, TracebackType
 from typing import NamedTuple, Self
 
 from support import pages, plain_model
-from support.auditing import Frames
+from support.auditing import Frames, why_none
 from support.call_logs import Log, Way, is_wait, word_of
 from support.commands import add_capacity, add_program, capacity_words, program_of
 from support.counting import Failure
@@ -1167,7 +1167,12 @@ def told(verdict: Verdict, seconds: float, before: int) -> str:
     lines += past.told_unlooked(verdict.native) + past.told_unwaited(verdict.native)
     lines += [f"not compared: {it}" for it in [past.given(verdict.native)] if it]
     lines += map(compare.clipped, told_started(verdict.compared.started) + past.told_past(every))
-    return "\n".join([*lines, f"audit: {verdict.audit}"])
+    return "\n".join([*lines, told_audit(verdict.audit, verdict.both.trace)])
+
+
+def told_audit(said: str, trace: bytes) -> str:
+    """What the audit has said of a trace, with the reason where it expects no outcome."""
+    return f"audit: {said}" + (f": {compare.clipped(why_none(trace, said))}" if said.endswith(" expected none") else "")
 
 
 # ---- the whole

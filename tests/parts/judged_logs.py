@@ -1639,6 +1639,21 @@ def tells_looked(system: str, fdref: str, noted: str, more: str, said: str) -> N
     require(not said or told == f"verdict: a difference: stat tells otherwise: system: {said}", told)
 
 
+# Traces of which the audit expects no outcome, how many records they may have, what it says, and why.
+NO_OUTCOME = [
+    ("0 p0 join = 0; 1 p1 exit = ok", 9, "illegal 1 expected none", "the model records nothing for `p1 exit` there"),
+    ("0 p0 join = 0; 1 p0 pipe = 0 1", 3, "illegal 1 expected none", "after it too few records are left for the run to end"),
+    ("0 p0 join = 0; 1 p0 pipe = 0 1", 9, "illegal 1 expected none", "but by the plain model it is legal 2 rest 0"),
+]
+
+
+def tells_why_none(trace: str, records: int, said: str, why: str) -> None:
+    """Why the audit expects no outcome is told; where it does expect one, nothing is."""
+    frames = trace_of(lines_of(trace), header_bytes(records=records))
+    same(f"audit: {said}: {why}", judge.told_audit(said, frames))
+    same("audit: illegal 1 expected 3", judge.told_audit("illegal 1 expected 3", frames))
+
+
 REFUSED = "p0 open a rw,creat = 0; p0 open a r = error {}"
 REFUSED_HERE = "0 p0 join = 0; 1 p0 open a rw,creat = 0; 2 p0 open a r = 1"
 
@@ -1776,6 +1791,8 @@ def cases() -> Iterator[Case]:
         yield f"a flag that is not as it was set, after {noted}", partial(tells_flags, noted, said)
     for looked in LOOKED:
         yield f"what stat told: {looked}", partial(tells_looked, *looked)
+    for why in NO_OUTCOME:
+        yield f"why the audit expects no outcome: {why}", partial(tells_why_none, *why)
     for error in ("EACCES", "EPERM"):
         for noted, is_superuser, status in (
             ("", True, 1),

@@ -104,6 +104,8 @@ class Audit:
         header = self.frames.header
         self.records = header.records if header else 0
         self.judge = kind(header.limits if header else DEFAULTS)
+        # whether the record that decides it is right, and leaves too few for the end of the run
+        self.is_endless = False
         self.verdict = self.judged()
 
     def judged(self) -> Ran:
@@ -115,6 +117,7 @@ class Audit:
             if wanted != line.outcome:
                 return illegal(place, wanted)
             if self.records and not self.judge.can_end(self.records):
+                self.is_endless = True
                 return illegal(place, None)
         if self.frames.fault is not None:
             return Ran(8, b"malformed %d\n" % self.frames.fault, b"")
@@ -130,6 +133,18 @@ def legal(records: int, rest: int = 0) -> Ran:
 def illegal(place: int, wanted: str | None) -> Ran:
     """The verdict on a trace whose record at a place is wrong, with the outcome that it should have, or None."""
     return Ran(7, f"illegal {place} expected {wanted or 'none'}\n".encode(), b"")
+
+
+def why_none(trace: bytes, said: str) -> str:
+    """Why an audit of a trace, which has said this, expects no outcome of a record."""
+    audit = Audit(trace)
+    own = audit.verdict.stdout.decode("ascii").strip()
+    if own != said:
+        return f"but by the plain model it is {own}"
+    if audit.is_endless:
+        return "after it too few records are left for the run to end"
+    act = run_line_of(audit.frames.lines[int(said.split(" ")[1])]).act
+    return f"the model records nothing for `{act}` there"
 
 
 def audited(trace: bytes) -> Ran:
