@@ -24,9 +24,14 @@ first of it; --keep has all. A difference after it is told to may follow from it
 if any, else from the last; one of what is written to a stream, from the first. Under --strict it ends the
 program. Calls that the C library makes inside are not seen: so printf is lost where dup2 puts a file of fdref
 at descriptor 1. Not judged are closefrom, an execl of more than 31 words, and the format of dprintf, which
-fdref's library answers by itself in both runs; that is told. Of a call that waits for nobody, as dup2, it is not seen
-where it blocks a signal alone, but where it blocks all or lets one come. Of threads one makes a call at a time,
-so where one waits the others do, which is told at once on standard error.
+fdref's library answers by itself in both runs; that is told. Not compared either are the modes of files, as open,
+creat and mkfifo take them and st_mode tells their bits, since fdref has none, and owners and times; and calls with the
+descriptors that are open at the start, as 0 to 2, which the kernel answers in both runs, but for EBADF, the number that
+a copy gets, and what is written to 1 and 2. What a call has done that the program does not ask for later is seen where
+no other process was ever there, of unlink, remove, link, rename, mkfifo, ftruncate, truncate and O_TRUNC, and of close
+where no other thread is; it is not seen otherwise, nor what a write has put where nothing reads it. Of a call that
+waits for nobody, as dup2, it is not seen where it blocks a signal alone, but where it blocks all or lets one come. Of
+threads one makes a call at a time, so where one waits the others do, which is told at once on standard error.
 
 Judged are the answers of the system, and not the program: a mistake of it that is the same in both runs
 is agreement.
@@ -66,16 +71,17 @@ The last line says what the exit status means:
 1  the answer to the same call differs, or that of F_GETFD, or an exec, from how FD_CLOEXEC was set, and none of
    these may be why: a reason, an order that was not decided on, what is told to go past fdref before it
    (tools/causes.py has what is known to be harmless), a thread that waits and holds its process, a child that a
-   signal ended, a descriptor that no call of fdref made, and a right. Or no order gives the answers; or the audit
-   finds a fault. Or a call of the system does what it may not beside its answer: it sets errno to 0, or fails
-   without setting it, or not with EBADF where nothing is open at a number from 32 on, tells one file as two,
-   makes no FIFO, opens one before the other end is opened, blocks other signals, SIGPIPE comes otherwise than once
-   with EPIPE, SA_RESTART is set otherwise, it goes on after a signal that
-   ends it (as x86-64 alone tells), a wait tells otherwise of a child than the kernel (which, where a handler ends
-   calls, keeps that from Linux 6.15 on), or does not wait (which is seen from then on too, of children that were not
-   made beside threads), a fork another number than the child has, F_SETFL sets other flags, an exec
-   gives a program other words, or fails with another error than that of a path which leads to nothing, a read
-   changes what is beyond its buffer; or it has not come back to the end, or a crash has ended it
+   signal ended, a descriptor that no call of fdref made, and a right. Or no order gives the answers; or the
+   audit finds a fault. Or a call of the system does what it may not beside its answer: it sets errno to 0, or
+   fails without setting it, or not with EBADF where nothing is open at a number from 32 on, tells one file as
+   two, makes no FIFO, opens one before the other end is opened, has not done to names, sizes or a descriptor
+   what it says, blocks other signals, SIGPIPE comes otherwise than once with EPIPE, SA_RESTART is set
+   otherwise, it goes on after a signal that ends it (as x86-64 alone tells), a wait tells otherwise of a child
+   than the kernel (which, where a handler ends calls, keeps that from Linux 6.15 on), or does not wait (which
+   is seen from then on too, of children that were not made beside threads), a fork another number than the
+   child has, F_SETFL sets other flags, an exec gives a program other words, or fails with another error than
+   that of a path which leads to nothing, a read changes what is beyond its buffer; or it has not come back to
+   the end, or a crash has ended it
 2  wrong words
 3  not judged: answers differ that have a reason; or one of these may be why; or a process makes another call, so
    that its program went another way, as by the time, a timer, the number of a process, an address or a mode; or

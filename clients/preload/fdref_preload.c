@@ -323,6 +323,146 @@ static int64_t gone_to_lowest(const struct going *it, int64_t given)
         within = before; \
     } while (0)
 
+/* ---- what a native call has done, which no line tells
+
+   The kernel is asked for that right after a call that has not failed, and no signal comes in between, but to an open
+   or a close, of which it is seen whether a handler has run. */
+
+static int has_all_alone(void);
+
+/* Whether nobody else can have changed since what a call has done: no other process was ever there. */
+static int is_done_alone(const struct going *it, int64_t given)
+{
+    return it->way == NOTE && given >= 0 && is_watching() && !is_behind && !has_others && has_all_alone();
+}
+
+/* What the kernel has of the file of a name, or zeros where there is none. */
+static struct stat named_in_kernel(const char *name, int flags)
+{
+    struct stat told;
+    memset(&told, 0, sizeof told);
+#ifdef SYS_newfstatat
+    if (system_syscall(SYS_newfstatat, (long)AT_FDCWD, name, &told, (long)flags) != 0)
+        memset(&told, 0, sizeof told);
+#else
+    (void)name;
+    (void)flags;
+#endif
+    return told;
+}
+
+/* Whether the kernel tells what is there. */
+#ifdef SYS_newfstatat
+enum { TELLS_NAMES = 1 };
+#else
+enum { TELLS_NAMES = 0 };
+#endif
+
+static int is_file_there(const struct stat *told) { return S_ISREG(told->st_mode) || S_ISFIFO(told->st_mode); }
+
+/* Whether two names are those of two files. Some file systems give each link of a file a number of its own. */
+static int are_two_files(const struct stat *one, const struct stat *other)
+{
+    return (one->st_dev != other->st_dev || one->st_ino != other->st_ino) && one->st_nlink < 2;
+}
+
+/* Notes what a call has not done, unless a handler may have run. */
+static void note_undone(const char *name, int is_undone, const char *what)
+{
+    if (is_undone && TELLS_NAMES && !is_heard_elsewhere())
+        note_wrong(name, what);
+}
+
+static int64_t has_removed(const struct going *it, const char *name, int64_t given)
+{
+    int64_t done = gone(it, given);
+    int error = errno;
+    struct stat there;
+    if (is_done_alone(it, given)) {
+        there = named_in_kernel(it->act.name, AT_SYMLINK_NOFOLLOW);
+        note_undone(name, there.st_mode != 0, "has not failed, and the name is still there");
+    }
+    errno = error;
+    return done;
+}
+
+/* The old name may be that of a link, of which it is not known whether it is followed. */
+static int64_t has_linked(const struct going *it, const char *name, int64_t given)
+{
+    int64_t done = gone(it, given);
+    int error = errno;
+    struct stat old, made;
+    if (is_done_alone(it, given)) {
+        old = named_in_kernel(it->act.name, AT_SYMLINK_NOFOLLOW);
+        made = named_in_kernel(it->act.new_name, AT_SYMLINK_NOFOLLOW);
+        note_undone(name, is_file_there(&old) && (made.st_mode == 0 || are_two_files(&old, &made)),
+                    "has not failed, and the new name does not lead to the file");
+    }
+    errno = error;
+    return done;
+}
+
+/* Two names of one file stay. */
+static int64_t has_renamed(const struct going *it, const char *name, int64_t given)
+{
+    int64_t done = gone(it, given);
+    int error = errno;
+    struct stat old, made;
+    if (is_done_alone(it, given)) {
+        old = named_in_kernel(it->act.name, AT_SYMLINK_NOFOLLOW);
+        made = named_in_kernel(it->act.new_name, AT_SYMLINK_NOFOLLOW);
+        note_undone(name, made.st_mode == 0, "has not failed, and the new name is not there");
+        note_undone(name, made.st_mode != 0 && old.st_mode != 0 && are_two_files(&old, &made),
+                    "has not failed, and the old name is still there");
+    }
+    errno = error;
+    return done;
+}
+
+static int64_t has_cut(const struct going *it, const char *name, int64_t length, int64_t given)
+{
+    int64_t done = gone(it, given);
+    int error = errno;
+    struct stat there;
+    if (is_done_alone(it, given)) {
+        there = told_in_kernel(it->act.fd);
+        note_undone(name, S_ISREG(there.st_mode) && there.st_size != length,
+                    "has not failed, and has not set the size");
+    }
+    errno = error;
+    return done;
+}
+
+/* It is not logged. */
+static int64_t has_cut_name(const struct going *it, const char *name, const char *path, int64_t length, int64_t given)
+{
+    int error = errno;
+    struct stat there;
+    if (is_done_alone(it, given)) {
+        there = named_in_kernel(path, 0);
+        note_undone(name, S_ISREG(there.st_mode) && there.st_size != length,
+                    "has not failed, and has not set the size");
+    }
+    errno = error;
+    return given;
+}
+
+#define REMOVED(it, given) has_removed(it, __func__, given)
+#define LINKED(it, given) has_linked(it, __func__, given)
+#define RENAMED(it, given) has_renamed(it, __func__, given)
+
+/* An open by O_TRUNC leaves nothing in a file. */
+static void check_opened(const struct going *it, const char *name, int flags, int64_t given)
+{
+    int error = errno;
+    struct stat there;
+    if ((flags & O_TRUNC) != 0 && (flags & O_ACCMODE) != O_RDONLY && is_done_alone(it, given) && it->runs == runs) {
+        there = told_in_kernel((int)given);
+        note_undone(name, S_ISREG(there.st_mode) && there.st_size != 0, "has not cut the file, by O_TRUNC");
+    }
+    errno = error;
+}
+
 /* ---- open */
 
 enum {
@@ -376,7 +516,9 @@ static int is_opened(struct going *it, int folder, const char *name, int flags)
             return (int)going.done; \
         begin_making(); \
         NEXT_TILL_ENDED(given, next words, &end); \
-        return (int)gone_to_lowest(&going, given); \
+        given = (int)gone_to_lowest(&going, given); \
+        check_opened(&going, #name, flags, given); \
+        return given; \
     }
 #define OPENS(name, also) \
     OPENS_SO(name, (const char *path, int flags, ...), (path, flags, mode), AT_FDCWD, path, flags | (also), \
@@ -414,6 +556,7 @@ static int is_closed(struct going *it, int fd)
 {
     it->act = fdref_act_close(fd);
     it->way = way_of(fd);
+    it->runs = runs;
     if (is_own(fd)) {
         it->done = fails(EBADF);
         return 1;
@@ -437,12 +580,15 @@ static void set_closed(int fd)
         set_free(fd);
 }
 
-static int64_t gone_closed(const struct going *it, int64_t given)
+static int64_t gone_closed(const struct going *it, const char *name, int64_t given)
 {
     int64_t done = gone(it, given);
     int error = errno;
-    if (!is_behind && it->act.fd >= 0 && it->act.fd < NUMBERS && stamps[it->act.fd] == it->stamp)
+    if (!is_behind && it->act.fd >= 0 && it->act.fd < NUMBERS && stamps[it->act.fd] == it->stamp) {
         set_closed(it->act.fd);
+        if (it->way == NOTE && given == 0 && is_alone() && !has_others && it->runs == runs)
+            note_undone(name, is_open_in_kernel(it->act.fd), "has not failed, and the descriptor is still open");
+    }
     errno = error;
     return done;
 }
@@ -458,7 +604,7 @@ static int64_t gone_closed(const struct going *it, int64_t given)
         if (is_closed(&going, fd)) \
             return (int)going.done; \
         NEXT_WITHIN(given, next(fd)); \
-        return (int)gone_closed(&going, given); \
+        return (int)gone_closed(&going, #name, given); \
     }
 
 CLOSES(close)
@@ -1042,7 +1188,8 @@ static int is_cut(struct going *it, int fd, int64_t length)
     return it->way == ASK;
 }
 
-#define CUTS(name, type) GOES(int, name, (int fd, type length), (fd, length), is_cut(&going, fd, length), gone)
+#define CUT(it, given) has_cut(it, __func__, length, given)
+#define CUTS(name, type) GOES(int, name, (int fd, type length), (fd, length), is_cut(&going, fd, length), CUT)
 CUTS(ftruncate, off_t)
 
 static int64_t cut_ours(const char *name, int64_t length)
@@ -1063,15 +1210,9 @@ static int is_name_cut(struct going *it, const char *name, int64_t length)
     return it->way == ASK;
 }
 
-/* It is not logged. */
-static int64_t gone_unseen(const struct going *it, int64_t given)
-{
-    (void)it;
-    return given;
-}
-
+#define NAME_CUT(it, given) has_cut_name(it, __func__, path, length, given)
 #define CUTS_NAME(name, type) \
-    GOES(int, name, (const char *path, type length), (path, length), is_name_cut(&going, path, length), gone_unseen)
+    GOES(int, name, (const char *path, type length), (path, length), is_name_cut(&going, path, length), NAME_CUT)
 CUTS_NAME(truncate, off_t)
 
 /* ---- duplicates and pipes */
@@ -1361,8 +1502,6 @@ static int is_fifo_made(struct going *it, int folder, const char *name)
     return it->way == ASK;
 }
 
-static int has_all_alone(void);
-
 /* Asks the same system natively what it has made, where no other process and no handler can have changed that. */
 static void check_fifo(const char *what, const char *name, int given, unsigned gone_before)
 {
@@ -1417,9 +1556,9 @@ static int is_linked(struct going *it, int folder, const char *name, int new_fol
 }
 
 GOES(int, link, (const char *name, const char *new_name), (name, new_name),
-     is_linked(&going, AT_FDCWD, name, AT_FDCWD, new_name, 0), gone)
+     is_linked(&going, AT_FDCWD, name, AT_FDCWD, new_name, 0), LINKED)
 GOES(int, linkat, (int folder, const char *name, int new_folder, const char *new_name, int flags),
-     (folder, name, new_folder, new_name, flags), is_linked(&going, folder, name, new_folder, new_name, flags), gone)
+     (folder, name, new_folder, new_name, flags), is_linked(&going, folder, name, new_folder, new_name, flags), LINKED)
 
 static int is_renamed(struct going *it, int folder, const char *name, int new_folder, const char *new_name)
 {
@@ -1445,9 +1584,9 @@ static int is_renamed(struct going *it, int folder, const char *name, int new_fo
 }
 
 GOES(int, rename, (const char *name, const char *new_name), (name, new_name),
-     is_renamed(&going, AT_FDCWD, name, AT_FDCWD, new_name), gone)
+     is_renamed(&going, AT_FDCWD, name, AT_FDCWD, new_name), RENAMED)
 GOES(int, renameat, (int folder, const char *name, int new_folder, const char *new_name),
-     (folder, name, new_folder, new_name), is_renamed(&going, folder, name, new_folder, new_name), gone)
+     (folder, name, new_folder, new_name), is_renamed(&going, folder, name, new_folder, new_name), RENAMED)
 
 static int is_unlinked(struct going *it, int folder, const char *name, int flags)
 {
@@ -1466,9 +1605,9 @@ static int is_unlinked(struct going *it, int folder, const char *name, int flags
     return it->way == ASK;
 }
 
-GOES(int, unlink, (const char *name), (name), is_unlinked(&going, AT_FDCWD, name, 0), gone)
+GOES(int, unlink, (const char *name), (name), is_unlinked(&going, AT_FDCWD, name, 0), REMOVED)
 GOES(int, unlinkat, (int folder, const char *name, int flags), (folder, name, flags),
-     is_unlinked(&going, folder, name, flags), gone)
+     is_unlinked(&going, folder, name, flags), REMOVED)
 
 static int is_removed(struct going *it, const char *name)
 {
@@ -1479,7 +1618,7 @@ static int is_removed(struct going *it, const char *name)
     return it->way == ASK;
 }
 
-GOES(int, remove, (const char *name), (name), is_removed(&going, name), gone)
+GOES(int, remove, (const char *name), (name), is_removed(&going, name), REMOVED)
 
 #include "files.h"
 #include "bounds.h"

@@ -72,7 +72,7 @@ static int is_renamed_with(struct going *it, int folder, const char *name, int n
 
 GOES(int, renameat2, (int folder, const char *name, int new_folder, const char *new_name, unsigned flags),
      (folder, name, new_folder, new_name, flags),
-     is_renamed_with(&going, folder, name, new_folder, new_name, flags), gone)
+     is_renamed_with(&going, folder, name, new_folder, new_name, flags), RENAMED)
 
 OPENS(open64, O_LARGEFILE)
 OPENS_IN(openat64, O_LARGEFILE)

@@ -902,6 +902,53 @@ static void set_flags(void)
     fcntl(ends[0], F_SETFD, FD_CLOEXEC);
 }
 
+/* Makes one call, after which the program does not look at what that has done. */
+static const char *way_here;
+static void do_unasked(void)
+{
+    const char *name = way_here + strlen("undone-");
+    int fd = open("a", O_RDWR | O_CREAT, 0600);
+    write(fd, "xyz", 3);
+    if (strcmp(name, "unlink") == 0)
+        unlink("a");
+    if (strcmp(name, "remove") == 0)
+        remove("a");
+    if (strcmp(name, "link") == 0 && link("a", "b") != 0)
+        exit(1);
+    if (strcmp(name, "removal") == 0 || strcmp(name, "rename") == 0)
+        rename("a", "b");
+    if (strcmp(name, "ftruncate") == 0 && ftruncate(fd, 1) != 0)
+        exit(1);
+    if (strcmp(name, "truncate") == 0 && truncate("a", 9) != 0)
+        exit(1);
+    if (strcmp(name, "open") == 0)
+        open("a", O_WRONLY | O_TRUNC);
+    if (strcmp(name, "close") == 0)
+        close(fd);
+}
+
+/* Makes those that leave a name or a size as it is, and others. */
+static void do_all(void)
+{
+    int fd = open("a", O_RDWR | O_CREAT | O_TRUNC, 0600);
+    if (rename("a", "a") != 0 || link("a", "b") != 0 || rename("a", "b") != 0 || ftruncate(fd, 0) != 0
+        || truncate("a", 70000) != 0 || rename("b", "c") != 0 || linkat(AT_FDCWD, "c", AT_FDCWD, "d", AT_SYMLINK_FOLLOW)
+        || unlink("a") != 0 || remove("d") != 0 || renameat(AT_FDCWD, "c", AT_FDCWD, "e") != 0 || close(fd) != 0)
+        exit(1);
+    open("e", O_RDWR | O_TRUNC);
+    mkfifo("f", 0600);
+    open("f", O_RDONLY | O_NONBLOCK);
+    dup2(ends[0], ends[1]);
+    close(ends[1]);
+    unlinkat(AT_FDCWD, "e", 0);
+    if (fork() == 0) {
+        unlink("f");
+        _exit(0);
+    }
+    wait(NULL);
+    close(open("f", O_WRONLY | O_CREAT | O_TRUNC, 0600));
+}
+
 /* Runs itself as a program that asks for one descriptor alone. */
 static void run_with_flags(void)
 {
@@ -981,6 +1028,11 @@ int main(int count, char **words)
         {"ino-apart", ask_files},       {"ino-same", ask_files},
         {"fifo-early", open_fifo},      {"fifo-regular", open_both},
         {"file-apart", ask_for_files},  {"file-same", ask_for_files},
+        {"undone-unlink", do_unasked},  {"undone-remove", do_unasked},
+        {"undone-link", do_unasked},    {"undone-rename", do_unasked},
+        {"undone-removal", do_unasked}, {"undone-ftruncate", do_unasked},
+        {"undone-truncate", do_unasked}, {"undone-open", do_unasked},
+        {"undone-close", do_unasked},   {"all-done", do_all},
         {"names", ask_for_names},       {"names-by-statx", ask_names_by_statx},
         {"statx-apart", ask_by_statx},  {"statx-same", ask_by_statx},
         {"statx-size", ask_names_by_statx}, {"statx-sized", ask_by_statx},
@@ -995,6 +1047,7 @@ int main(int count, char **words)
         {"own-beside", read_own},
     };
     own_path = words[0];
+    way_here = words[count - 1];
     if (count != 2 || (strcmp(words[1], "asks") != 0 && pipe(ends) != 0))
         return 1;
     for (size_t at = 0; at < sizeof ways / sizeof *ways; at++)

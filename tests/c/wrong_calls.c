@@ -70,6 +70,9 @@
    read-beyond     a read changes a byte beyond its buffer
    cloexec-thread  F_GETFD gives 0
    cloexec-beside  the same, beside a thread
+   undone-NAME     unlink, remove, link, rename, ftruncate, truncate or close does nothing
+   undone-open     open does not cut a file by O_TRUNC
+   undone-removal  rename lets the old name be
    ino-apart       fstat tells another st_ino of each descriptor
    ino-same        fstat tells the same st_ino of all
    file-apart      fstat and stat tell another st_ino each time
@@ -432,22 +435,51 @@ int isatty(int fd)
     return done == 0 || is_wrong("terminal-told") || is_wrong("terminal-beside");
 }
 
-int ftruncate(int fd, off_t length) { return (int)given_by("ftruncate", syscall(SYS_ftruncate, fd, (long)length)); }
+int ftruncate(int fd, off_t length)
+{
+    if (is_wrong("undone-ftruncate"))
+        return 0;
+    return (int)given_by("ftruncate", syscall(SYS_ftruncate, fd, (long)length));
+}
+
+int unlink(const char *name)
+{
+    return is_wrong("undone-unlink") ? 0 : (int)syscall(SYS_unlinkat, AT_FDCWD, name, 0);
+}
+
+int remove(const char *name)
+{
+    return is_wrong("undone-remove") ? 0 : (int)syscall(SYS_unlinkat, AT_FDCWD, name, 0);
+}
+
+int link(const char *name, const char *new_name)
+{
+    return is_wrong("undone-link") ? 0 : (int)syscall(SYS_linkat, AT_FDCWD, name, AT_FDCWD, new_name, 0);
+}
 
 int rename(const char *name, const char *new_name)
 {
+    if (is_wrong("undone-removal"))
+        close((int)syscall(SYS_openat, AT_FDCWD, new_name, O_RDWR | O_CREAT, 0600));
+    if (is_wrong("undone-rename") || is_wrong("undone-removal"))
+        return 0;
     return (int)given_by("rename", syscall(SYS_renameat2, AT_FDCWD, name, AT_FDCWD, new_name, 0));
 }
 
 int truncate(const char *name, off_t length)
 {
-    int error = errno, done = (int)syscall(SYS_truncate, name, (long)length);
+    int error = errno, done = is_wrong("undone-truncate") ? 0 : (int)syscall(SYS_truncate, name, (long)length);
     if (is_wrong("errno-kept"))
         errno = error;
     return done;
 }
 
-int close(int fd) { return is_wrong("close-kept") ? 0 : (int)given_by("close", syscall(SYS_close, fd)); }
+int close(int fd)
+{
+    if (is_wrong("close-kept") || is_wrong("undone-close"))
+        return 0;
+    return (int)given_by("close", syscall(SYS_close, fd));
+}
 
 int dup2(int fd, int to)
 {
@@ -505,7 +537,8 @@ int open(const char *name, int flags, ...)
     int is_unset = is_wrong("cloexec-unset") || is_wrong("cloexec-exec");
     if (flags == O_WRONLY && is_wrong("fifo-early") && stat(name, &told) == 0 && S_ISFIFO(told.st_mode))
         flags = O_RDWR;
-    return (int)syscall(SYS_openat, AT_FDCWD, name, is_unset ? flags & ~O_CLOEXEC : flags, 0600);
+    flags &= is_unset ? ~O_CLOEXEC : is_wrong("undone-open") ? ~O_TRUNC : ~0;
+    return (int)syscall(SYS_openat, AT_FDCWD, name, flags, 0600);
 }
 
 int mkfifo(const char *name, mode_t mode)

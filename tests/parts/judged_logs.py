@@ -1639,10 +1639,11 @@ def tells_looked(system: str, fdref: str, noted: str, more: str, said: str) -> N
     require(not said or told == f"verdict: a difference: stat tells otherwise: system: {said}", told)
 
 
+TOO_FEW = "after it too few records are left for the run to end"
 # Traces of which the audit expects no outcome, how many records they may have, what it says, and why.
 NO_OUTCOME = [
     ("0 p0 join = 0; 1 p1 exit = ok", 9, "illegal 1 expected none", "the model records nothing for `p1 exit` there"),
-    ("0 p0 join = 0; 1 p0 pipe = 0 1", 3, "illegal 1 expected none", "after it too few records are left for the run to end"),
+    ("0 p0 join = 0; 1 p0 pipe = 0 1", 3, "illegal 1 expected none", TOO_FEW),
     ("0 p0 join = 0; 1 p0 pipe = 0 1", 9, "illegal 1 expected none", "but by the plain model it is legal 2 rest 0"),
 ]
 

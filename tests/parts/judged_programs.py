@@ -599,6 +599,7 @@ def cases(bench: Bench) -> Iterator[Case]:
     yield "a wait that does not wait, beside a thread", partial(tells_unwaited, bench)
     yield "a child's end beside a handler that ends calls", partial(loses_beside_handlers, bench)
     yield "a read into parts that overlap", partial(excuses_waits, bench, "over")
+    yield "names and sizes that are right", partial(excuses_waits, bench, "all-done")
     for word in RIGHT_WAITS:
         yield f"waits that are right: {word}", partial(excuses_waits, bench, word)
     yield "a call that sets errno, and does not fail", partial(names_errno, bench)
@@ -844,6 +845,20 @@ WRONGED = {
     "dup3-same": f"{OF_SYSTEM}p0 dup3: has not refused one number twice, or other flags",
     "access-refused": "verdict: a difference: access tells otherwise: system: a = error 2, fdref: a = there",
     "read-beyond": f"{OF_SYSTEM}p0 read: has changed what is beyond its buffer",
+    **{
+        f"undone-{word}": f"{OF_SYSTEM}p0 {name}: {what}"
+        for word, name, what in (
+            ("unlink", "unlink", "has not failed, and the name is still there"),
+            ("remove", "remove", "has not failed, and the name is still there"),
+            ("link", "link", "has not failed, and the new name does not lead to the file"),
+            ("rename", "rename", "has not failed, and the new name is not there"),
+            ("removal", "rename", "has not failed, and the old name is still there"),
+            ("ftruncate", "ftruncate", "has not failed, and has not set the size"),
+            ("truncate", "truncate", "has not failed, and has not set the size"),
+            ("open", "open", "has not cut the file, by O_TRUNC"),
+            ("close", "close", "has not failed, and the descriptor is still open"),
+        )
+    },
     "ino-apart": f"{OF_SYSTEM}p0 fstat: tells two files where there is one",
     "ino-same": f"{OF_SYSTEM}p0 fstat: tells one file where there are two",
     "file-apart": f"{OF_SYSTEM}p0 fstat: tells two files where there is one",
