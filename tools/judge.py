@@ -22,16 +22,17 @@ reason. What fdref leaves out goes past it to the system, and is not judged: pat
 streams of stdio, other programs. Fdref's library notes what it sees of that, and it is told by kinds, each with the
 first of it; --keep has all. A difference after it is told to may follow from it: from what has the same name,
 if any, else from the last; one of what is written to a stream, from the first. Under --strict it ends the
-program. Calls that the C library makes inside are not seen: so printf is lost where dup2 puts a file of fdref
-at descriptor 1. Not judged are closefrom, an execl of more than 31 words, and the format of dprintf, which
-fdref's library answers by itself in both runs; that is told. Not compared either are the modes of files, as open,
-creat and mkfifo take them and st_mode tells their bits, since fdref has none, and owners and times; and calls with the
-descriptors that are open at the start, as 0 to 2, which the kernel answers in both runs, but for EBADF, the number that
-a copy gets, and what is written to 1 and 2. What a call has done that the program does not ask for later is seen where
-no other process was ever there, of unlink, remove, link, rename, mkfifo, ftruncate, truncate and O_TRUNC, and of close
-where no other thread is; it is not seen otherwise, nor what a write has put where nothing reads it. Of a call that
-waits for nobody, as dup2, it is not seen where it blocks a signal alone, but where it blocks all or lets one come. Of
-threads one makes a call at a time, so where one waits the others do, which is told at once on standard error.
+program. Calls that the C library makes inside are not seen: so printf is lost where dup2 puts a file of fdref at
+descriptor 1. Not judged are closefrom, an execl of more than 31 words, and the format of dprintf, which fdref's
+library answers by itself in both runs; that is told. Not compared either are the modes of files, as open, creat
+and mkfifo take them and st_mode tells their bits, since fdref has none, and owners and times; and calls with the
+descriptors that are open at the start, as 0 to 2, which the kernel answers in both runs, but for EBADF, the
+number that a copy gets, and what is written to 1 and 2. What a call has done that the program does not ask for
+later is seen where no other process was ever there, of unlink, remove, link, rename, mkfifo, ftruncate, truncate
+and O_TRUNC, and of close where no other thread is, and no program was started; it is not seen otherwise, nor what
+a write has put where nothing reads it. Of a call that waits for nobody, as dup2, it is not seen where it blocks a
+signal alone, but where it blocks all or lets one come. Of threads one makes a call at a time, so where one waits
+the others do, which is told at once on standard error.
 
 Judged are the answers of the system, and not the program: a mistake of it that is the same in both runs
 is agreement.

@@ -1010,8 +1010,10 @@ static struct waiting begin_waiting(const char *name, pid_t which, int options)
     it.is_known = is_seen && (which > 0 || which == -1);
     it.is_of_group = is_seen && !it.is_known;
     it.is_one = is_seen && is_alone();
-    if (it.is_one)
+    if (it.is_one) {
+        find_others();
         first_gone();
+    }
     if (it.is_known)
         do {
             it.runs = runs;

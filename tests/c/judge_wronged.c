@@ -40,7 +40,7 @@ static void meet_dry_input(void)
     meet_dry_end();
 }
 
-static void keep_flags(void)
+static void keep_flags_here(void)
 {
     int copies[6];
     fcntl(ends[0], F_SETFD, FD_CLOEXEC);
@@ -61,6 +61,12 @@ static void keep_flags(void)
     fcntl(copies[4], F_GETFD);
     close(copies[4]);
     fcntl(copies[4], F_GETFD);
+}
+
+/* A child has them, too. */
+static void keep_flags(void)
+{
+    keep_flags_here();
     if (fork() == 0)
         _exit(fcntl(ends[0], F_GETFD) == 99);
     wait(NULL);
@@ -878,7 +884,7 @@ static void do_beside(void (*does)(void))
 
 static void ask_terminals_beside(void) { do_beside(ask_terminals); }
 static void ask_above_beside(void) { do_beside(ask_above); }
-static void keep_flags_beside(void) { do_beside(keep_flags); }
+static void keep_flags_beside(void) { do_beside(keep_flags_here); }
 
 /* A group of processes is a number below -1, and so may the offset be in what is no file of fdref. */
 static void go_below(void)
