@@ -145,8 +145,10 @@ static void check_named(const char *name, const char *path, uint64_t device, uin
 /* The same of a descriptor that no name has led to, and no handler can have led elsewhere. */
 static void check_led(const char *name, int fd, uint64_t device, uint64_t number, unsigned runs_before)
 {
-    if (runs == runs_before && !is_heard_elsewhere())
+    int error = errno;
+    if (is_watching() && runs == runs_before && !is_heard_elsewhere())
         check_file(name, fd, device, number);
+    errno = error;
 }
 
 /* Whether a call looks at a descriptor of fdref itself, which is noted by its number then. */
