@@ -17,8 +17,9 @@ In fdref a pipe has room for 1,024 bytes, or for as many as --pipe-capacity says
 a history with a pipe or FIFO, one is searched for with pipes of 65,536 bytes, and run through `fdref replay
 --pipe-capacity 65536`. If there is one the history has a reason, `room of a pipe (own)`: the standard leaves it open.
 So it does in how many parts a write of more than 512 bytes goes into a pipe, and an order of such parts is searched for
-then: `a write of more than 512 bytes in parts (own)`. And so it does which end of a pipe has the lower number. Where
-that is the writing one, dup2 and close are added, and the ends change places.
+then: `a write of more than 512 bytes in parts (own)`. One of them that is not to wait may so take what reads free while
+it goes on: no fewer bytes than there was room for at some moment, and no more than went in. Open, too, is which end of
+a pipe has the lower number. Where that is the writing one, dup2 and close are added, and the ends change places.
 Left open, too, is how much a write of more than 512 bytes has moved that waits and ends early, since the last reader
 has gone. Where calls overlap, and no order explains them else, such a write is two in an order: one of what it gave,
 and one of the rest, which is EPIPE: `how much a write has moved that ends early (own)`. Where nonblock is set while it

@@ -901,6 +901,36 @@ NOT_SET_MEANWHILE = [
 ]
 
 
+# Writes that are not to wait, and take what reads free while they go on, in a pipe of 1,024 bytes: some of it, all, of
+# two reads, and where the pipe was full. The nearest that are wrong: fewer bytes than there was room for, more than went
+# in, the read comes later or before, of another pipe, or gives nothing, the write is to wait, and a byte is lost.
+FREED = f"{TWO}8 9 p0 setfl 1 -,nonblock = ok\n10 11 p0 write 1 61*1000 = 1000\n20 60 p0 write 1 62*2000 = 300\n"
+FREED += "30 40 p1 read 0 500 = 61*500\n"
+FULL_FREED = FREED.replace("20 60", "12 13 p0 write 1 61*24 = 24\n20 60")
+TWO_FREED = f"{FREED.replace('= 300', '= 600')}42 43 p1 read 0 510 = x{'61' * 500}{'62' * 10}\n"
+OWN_FREED = FREED.replace("= 300", "= 1048").replace("read 0 500 = 61*500", f"read 0 1024 = x{'61' * 1000}{'62' * 24}")
+FREEINGS = [
+    FREED,
+    FREED.replace("= 300", "= 523"),
+    FULL_FREED,
+    TWO_FREED,
+    OWN_FREED,
+    f"{FREED}62 63 p1 read 0 1024 = x{'61' * 500}{'62' * 300}\n",
+]
+NO_FREEINGS = [
+    FREED.replace("= 300", "= 23"),
+    FREED.replace("= 300", "= 525"),
+    FULL_FREED.replace("= 300", "= 501"),
+    OWN_FREED.replace("= 1048", "= 1049"),
+    FREED.replace("30 40", "61 62"),
+    FREED.replace("30 40", "14 15"),
+    FREED.replace("30 40 p1 read 0", "16 17 p1 pipe = 2 3\n18 19 p1 write 3 61*500 = 500\n30 40 p1 read 2"),
+    FREED.replace("read 0 500 = 61*500", "read 1 500 = error EBADF"),
+    FREED.replace("-,nonblock", "-"),
+    f"{FREED}62 63 p1 read 0 1024 = x{'61' * 500}{'62' * 299}\n64 - p1 read 0 1 = parked ?\n",
+]
+
+
 # Calls on pipes of more bytes than fdref takes, which overlap others. The nearest that are wrong: more moved than there
 # is room for, with a reader left and without, one that waits for no reason or not, and another byte is read.
 OVER = f"{LONE}20 90 p0 write 1 61*65700 = 65536\n30 40 p1 read 0 10 = 61*10\n50 60 p1 close 0 = ok\n"
@@ -1112,6 +1142,10 @@ def part_cases(program: str) -> Iterator[Case]:
     counted = "histories 2 explained 1 unexplained 0 given up 0 nonblock set while a write waits 1"
     both = f"{SET_MEANWHILE}\n{GOOD}"
     yield "ends as nonblock is set, counted", partial(ends_with, program, both, 0, counted, *known)
+    for text in FREEINGS:
+        yield f"takes what is freed: {text}", partial(ends_with, program, text, 0, BY_PARTS, *known)
+    for text in NO_FREEINGS:
+        yield f"does not take what is freed: {text}", partial(fails, program, text, 1, "no order explains it", *known)
     for text in PAST_MOST:
         yield f"more than fdref takes: {text}", partial(ends_with, program, text, 0, BY_TRANSFER)
     for text in NOT_PAST_MOST:

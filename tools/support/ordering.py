@@ -13,6 +13,7 @@ from typing import NamedTuple
 
 from support.exits import Exiting, exits_at_once, with_closes
 from support.footprints import Footprints
+from support.freed import Freeing, by_turns
 from support.guesses import with_guesses
 from support.histories import UNKNOWN, WAITS, Noted
 from support.late_links import late_links
@@ -316,6 +317,22 @@ def by_small_parts(
     return None
 
 
+def by_freed(
+    history: Sequence[Noted], states_most: int = STATES_MOST, seconds: float = SECONDS, *limits: Limits
+) -> ByParts | None:
+    """An order of a history that explains it where large writes that are not to wait take what reads free while they go
+    on, if there is one, in a run of the first of these limits that has one; other large writes go in at once, or by
+    parts."""
+    told = sorted(history, key=lambda noted: noted.start)
+    for ordered in filter(None, (told, in_parts(told))):
+        for one in limits:
+            with contextlib.suppress(TooLong):
+                steps = Freeing(ordered, one, states_most, seconds).order()
+                if steps is not None and are_of_pipes(told, steps, one):
+                    return ByParts(by_turns(ordered, steps), steps, one)
+    return None
+
+
 def by_choice(
     history: Sequence[Noted], states_most: int, seconds: float, limits: Limits, has_room: bool, are_at_once: bool
 ) -> By | None:
@@ -330,6 +347,7 @@ def by_choice(
     others = by_early_end(history, *most, *rooms) or by_unblocked(history, *most, *rooms)
     others = others or by_transfer(history, *most, *rooms) or by_shares(history, *most, *rooms)
     others = others or by_exits(history, *most, *rooms) or by_small_parts(history, *most, *rooms)
+    others = others or by_freed(history, *most, *rooms)
     guessed = None if others else with_guesses(sorted(history, key=lambda noted: noted.start))
     ways = (by_parts, by_shares, by_small_parts) if guessed else ()
     return next(filter(None, (way(guessed or [], *most, *rooms) for way in ways)), others)

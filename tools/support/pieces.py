@@ -73,10 +73,18 @@ def reads_of(history: Sequence[Noted]) -> Iterator[tuple[Noted, bytes]]:
 
 def in_parts(history: Sequence[Noted], most_at_once: int = PIPE_BUF) -> list[Noted] | None:
     """A history with the parts of its writes of more than so many bytes, or None where none has parts."""
-    taken = {at: Taken(noted) for at, noted in enumerate(history) if noted.act.word == "write"}
     has_pipe = any(noted.act.word in ("pipe", "mkfifo") for noted in history)
-    if not has_pipe or not any(len(it.data) > most_at_once for it in taken.values()):
+    sizes = (len(noted.act.fields[1]) for noted in history if noted.act.word == "write")
+    if not has_pipe or max(sizes, default=0) <= most_at_once:
         return None
+    parts = {at: it.parts(most_at_once) for at, it in taken_in(history).items()}
+    parted = [it for at, noted in enumerate(history) for it in parts.get(at, [noted])]
+    return parted if len(parted) > len(history) else None
+
+
+def taken_in(history: Sequence[Noted]) -> dict[int, Taken]:
+    """The writes of a history by their places, with what was read of each."""
+    taken = {at: Taken(noted) for at, noted in enumerate(history) if noted.act.word == "write"}
     later = deque(sorted(taken.values(), key=lambda it: it.noted.start))
     begun: list[Taken] = []
     for noted, data in reads_of(history):
@@ -90,9 +98,12 @@ def in_parts(history: Sequence[Noted], most_at_once: int = PIPE_BUF) -> list[Not
             best.take(count)
             begun = [it for it in begun if it is not best or it.count < len(it.data)]
             data = data[count:]
-    parts = {at: it.parts(most_at_once) for at, it in taken.items()}
-    parted = [it for at, noted in enumerate(history) for it in parts.get(at, [noted])]
-    return parted if len(parted) > len(history) else None
+    return taken
+
+
+def ends_in(history: Sequence[Noted]) -> dict[int, set[int]]:
+    """For the place of each write of a history, where its parts may end, as what was read tells."""
+    return {at: it.ends for at, it in taken_in(history).items() if len(it.ends) <= PARTS_MOST}
 
 
 def rests_in(history: Sequence[Noted], parted: Iterable[Noted]) -> list[Noted]:

@@ -187,8 +187,12 @@ class Search:
 
     def order(self) -> list[Step] | None:
         """The steps of an order, or None where there is none."""
-        start = Place((0,) * len(self.processes), 0, 0)
+        start = self.start()
         return first_path(start, self.moves, self.is_end, self.was_seen) if self.foretold.is_possible else None
+
+    def start(self) -> Place:
+        """Where a search begins."""
+        return Place((0,) * len(self.processes), 0, 0)
 
     def was_seen(self, place: Place) -> bool:
         """Whether a place was tried before; from now on it was."""
