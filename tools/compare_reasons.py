@@ -335,14 +335,25 @@ def put_before_read(it: Difference, pipe: plain_model.Pipe) -> int:
 def most_after(it: Difference) -> int:
     """How many bytes may still go into a pipe before the next read, where the system had no room for all of a write:
     none where it put in what fits, and fewer than were asked for where that was nothing. A page that is not full may
-    take more of another write, but where a large one fits into it too."""
+    take more of another write. Of a large one it takes what that has beside whole pages, if all of that fits there."""
     assert it.at and it.at.pipe
     whole, is_part = it.count(), it.system.isdigit()
     if it.system == "error EAGAIN" and whole > PIPE_BUF and it.put is not None:
         is_part = whole + it.put.get(it.at.pipe, 0) <= it.page
     if is_part:
-        return 0 if it.counts_bytes or whole <= it.page else it.page - 1
-    return whole - 1 if it.counts_bytes else min(whole, it.page) - 1
+        beside = whole % it.page
+        is_beside = not it.counts_bytes and whole > it.page and it.system == str(beside)
+        return it.page - 1 - beside if is_beside else 0
+    return whole - 1 if it.counts_bytes else (whole % it.page or it.page) - 1
+
+
+def is_of_pages(it: Difference) -> bool:
+    """Whether a part of a write that is not to wait is one that goes into pages: what the write has beside whole pages,
+    in a page that is not full, or whole pages, or both."""
+    if not it.system.isdigit():
+        return True
+    whole, part = it.count(), int(it.system)
+    return whole > it.page and (part % it.page == 0 or part % it.page == whole % it.page)
 
 
 def room_left(it: Difference) -> int:
@@ -422,6 +433,8 @@ def is_paged_room(it: Difference) -> bool:
     if it.words("read"):
         return is_paged_read(it, pipe)
     if not it.words("write") or not may_give(it, it.system) or not is_moved(it.fdref) or has_free_pages(it, pipe):
+        return False
+    if not is_of_pages(it):
         return False
     held, fdref = len(pipe.data), moved(it.fdref)
     # a large page that is only tried is believed where there are two of them, and as much was put in as they take

@@ -1220,8 +1220,42 @@ NO_PAGES = [
 ]
 
 
+# Pipes of sixteen pages, of which the last is not full. It takes of a large write what that has beside whole pages, if
+# all of that fits: 500 bytes of 33,268, and 904 of 5,000. The nearest that are in no such pages: it would have had room
+# for that, as a later write shows, or takes more or less of it, or is not full after a whole page.
+SIXTEENTH = f"{WET}6 7 p0 write 1 61*61440 = 61440\n8 9 p0 write 1 61*100 = 100\n"
+NEARLY_FULL = SIXTEENTH.replace("61*100 = 100", "61*3597 = 3597")
+FIFTEENTH = f"{WET}6 7 p0 write 1 61*61000 = 61000\n"
+BESIDE_PAGES = [
+    (NEARLY_FULL, "20 21 p0 write 1 62*33268 = error EAGAIN", "499", "22 23 p0 write 1 63*499 = 499\n"),
+    (SIXTEENTH, "20 21 p0 write 1 62*5000 = 904", "3996", "22 23 p0 write 1 63*3092 = 3092\n"),
+    (FIFTEENTH, "20 21 p0 write 1 62*5000 = 4096", "4536", "22 23 p0 write 1 63*400 = error EAGAIN\n"),
+]
+NOT_BESIDE_PAGES = [
+    (SIXTEENTH, "20 21 p0 write 1 62*33268 = error EAGAIN", "22 23 p0 write 1 63*1000 = 1000\n"),
+    (SIXTEENTH, "20 21 p0 write 1 62*5000 = 905", ""),
+    (SIXTEENTH, "20 21 p0 write 1 62*5000 = 903", ""),
+    (FIFTEENTH, "20 21 p0 write 1 62*5000 = 4096", "22 23 p0 write 1 x63 = 1\n"),
+]
+# An empty pipe takes all that it holds, whatever its pages.
+EMPTY_TAKES = [(f"{WET}20 21 p0 write 1 62*9000 = 8192\n", capacity) for capacity in ("12288", "16384", "65536")]
+
+
 def page_cases(program: str) -> Iterator[Case]:
     """What is told where the pages of a system may be larger."""
+    for before, call, answer, after in BESIDE_PAGES:
+        end = f"\n  {call}\nfdref answers {answer}\nreason: room of a pipe that is counted in pages (own; page of write)"
+        case = partial(fails, program, f"{before}{call}\n{after}", 0, end, "--pipe-capacity", "65536")
+        yield f"beside whole pages: {call}; {after}", case
+    for before, call, after in NOT_BESIDE_PAGES:
+        case = partial(fails, program, f"{before}{call}\n{after}", 1, f"\n  {call}\n", "--pipe-capacity", "65536")
+        yield f"not beside whole pages: {call}; {after}", case
+    whole, end = f"{WET}20 21 p0 write 1 62*9000 = 8192\n", "3 p0 write 1 62*9000 = 8192"
+    whole = f"{whole}22 23 p0 write 1 x62 = error EAGAIN\n"
+    yield "a pipe of two pages", partial(fails, program, whole, 0, end, "--pipe-capacity", "8192")
+    for text, capacity in EMPTY_TAKES:
+        case = partial(ends_with, program, text, 1, f"fdref answers 9000\n{WRITE}", "--pipe-capacity", capacity)
+        yield f"an empty pipe of {capacity} bytes that takes less", case
     known = ("--pipe-capacity", "65536")
     paged = "room of a pipe that is counted in pages (own; page of write)"
     for before, call, answer, after in PAGES_OF_16K:
