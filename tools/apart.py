@@ -441,7 +441,9 @@ class Excuses:
         if not found and may_wait_for_room(self.history):
             placed, found = self.found_by_waits(limits, why)
         is_short = not found and is_out_of_room(self.history, limits, why)
-        return (placed, found) if found else self.found_by_search(ROOMY if is_short else limits, why)
+        if not found:
+            placed, found = self.found_by_search(ROOMY if is_short else limits, why)
+        return (placed, found) if found else self.found_beside_late(limits, why)
 
     def found_by_ends(self, limits: Limits, why: Why) -> tuple[list[Noted], list[Apart]]:
         """The same by what has a reason in the order of the ends. That comes first, then one that explains what has no
@@ -474,6 +476,29 @@ class Excuses:
                 if is_all and (ordered is self.history or all(map(may_wait_on, found))):
                     return ordered, found
         return self.found_by_ends(ROOMY, why) if may_be_larger(limits) else (self.history, [])
+
+    def found_beside_late(self, limits: Limits, why: Why) -> tuple[list[Noted], list[Apart]]:
+        """The same where writes that wait at the end have a reason to, and have moved nothing that others tell of: an
+        order is searched for without them, and then for each a place in it at which it may have begun to wait."""
+        late = [noted for noted in self.history if noted.act.word == "write" and noted.outcome == WAITS]
+        rest = [noted for noted in self.history if noted not in late]
+        room = ROOMY if may_be_larger(limits) else limits
+        if not late:
+            return self.history, []
+        others = Excuses(rest, self.states_most, self.seconds)
+        placed, found = others.order(World, frozenset(), room), []
+        if not placed:
+            placed, found = others.found_by_search(room, why)
+        if not placed or (not found and placed is others.history):
+            return self.history, []
+        for noted in sorted(late, key=lambda noted: noted.start):
+            begun = with_late(placed, noted, room, why)
+            if not begun:
+                return self.history, []
+            placed, it = begun
+            found = [shifted(one, it.place) for one in found] + [it]
+        found = [it for it in found if it.reason]
+        return (placed, found) if found else (self.history, [])
 
     def found_by_search(self, limits: Limits, why: Why) -> tuple[list[Noted], list[Apart]]:
         """The same, by reasons that are fdref's own, in an order that is searched for by them. At first no call has
@@ -530,6 +555,27 @@ def beside_choice(
     found = list(differences(placed, chosen.limits, why))
     is_all = all(it.reason and it.reason.who == OWN and it.noted in known.values() for it in found)
     return (chosen, placed, found) if found and is_all else None
+
+
+def with_late(history: Sequence[Noted], late: Noted, limits: Limits, why: Why) -> tuple[list[Noted], Apart] | None:
+    """A history in this order with a write that waits at its end, where that may have begun to wait, and how the model
+    answers it, with no reason where that waits too; or None where it has no reason to wait."""
+    first = max((at + 1 for at, noted in enumerate(history) if noted.precedes(late)), default=0)
+    for place in range(first, len(history) + 1):
+        placed = [*history[:place], late, *history[place:]]
+        whole = Beside(placed, limits)
+        it, _ = apart_at(placed, place, whole, limits, {}, why)
+        if is_given(late, whole.answers[place]):
+            return placed, it._replace(reason=None)
+        if it.reason and it.reason.who == OWN and may_wait_on(it):
+            return placed, it
+    return None
+
+
+def shifted(it: Apart, place: int) -> Apart:
+    """A call that is answered otherwise, once another one was put in at a place before it or after it."""
+    instead = {at + (at >= place): acts for at, acts in it.instead.items()}
+    return it._replace(place=it.place + (it.place >= place), instead=instead)
 
 
 def may_wait_on(it: Apart) -> bool:

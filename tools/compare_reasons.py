@@ -344,7 +344,10 @@ def most_after(it: Difference) -> int:
         beside = whole % it.page
         is_beside = not it.counts_bytes and whole > it.page and it.system == str(beside)
         return it.page - 1 - beside if is_beside else 0
-    return whole - 1 if it.counts_bytes else (whole % it.page or it.page) - 1
+    beside = whole % it.page or it.page
+    # one that waits may have put that in
+    is_in = it.system != "error EAGAIN" and whole > it.page
+    return whole - 1 if it.counts_bytes else max(beside - 1, it.page - 1 - beside if is_in else 0)
 
 
 def is_of_pages(it: Difference) -> bool:
