@@ -45,6 +45,8 @@ fewer than 20, larger and smaller files, shorter names, a larger PIPE_BUF, ENOSP
 is short for want of space is none, as it cannot be told from a wrong one; nor is a join that is refused.
 A FIFO opened for both, which the standard leaves undefined, is one: it counts as one open of each end in what comes
 after, which only the model judges, as fdref refuses it. Where that explains nothing its reads and writes are left out.
+A signal may end a call with EINTR, where the page of that has it: such a call has changed nothing, and is left out: `a
+signal ends a call (EINTR) (own)`. A close may have closed its descriptor, or not. All else is judged.
 
 Where none explains a history a part of it is printed that has none either. In it `?` is an answer that does not
 matter, and END `-` with `?` is a call of which nothing else is known. Both may be asked, too. Then comes the call that
@@ -64,14 +66,14 @@ is not what the plain model is, 4 where a line is no call, 5 where one was given
 
 import argparse
 import sys
-from collections.abc import Sequence
+from collections.abc import Iterator, Sequence
 from pathlib import Path
 from typing import NamedTuple
 
 from support import pages, plain_model
 from support.both_ways import opens_for_both, opens_of, without_fifos
 from support.commands import ChosenLimits, add_capacity, add_program, program_of
-from support.histories import BadHistory, Noted, form, history_text, read_histories
+from support.histories import UNKNOWN, BadHistory, Noted, form, history_text, read_histories
 from support.ordering import (
     ROOMY,
     SECONDS,
@@ -144,6 +146,11 @@ NOT_FOR_BOTH = "that is told where a FIFO may be opened for both, whatever is re
 # What is told of a history in which the writing end of a pipe has the lower number.
 TURNED = "where the ends of a pipe change places, by dup2 and close"
 BY_TURN = "reason: which end of a pipe has the lower number (own; page of pipe)"
+# The calls that a signal may end, as their pages say, and what is told of a history with such.
+MAY_BE_ENDED = ("open", "close", "read", "write", "pread", "pwrite", "dup2", "ftruncate")
+WITHOUT_ENDED = "an order explains it without the calls that a signal has ended"
+BY_SIGNAL = "reason: a signal ends a call (EINTR) (own; XSH 2.4.4)"
+NOT_BY_SIGNAL = "that is told without the calls that a signal has ended"
 # The lowest descriptor of a history whose processes have three that are not told, and what is told of them.
 FIRST_LEFT = 3
 BEGINS_AT_0 = "its descriptors begin at 3, and those of fdref at 0: let p0 open a file first, and dup it twice"
@@ -236,6 +243,27 @@ class Orders:
         return Chosen("\n".join([f"an order explains it {TURNED}", *map(moved_line, lines), ""]))
 
     def found(self, history: Sequence[Noted]) -> Answer:
+        """Whether an order explains a history, and if not why. A call that a signal has ended is left out."""
+        ended = [noted for noted in history if is_ended(noted)]
+        if not ended:
+            return self.found_of(history)
+        first: Answer | None = None
+        for left in without_ended(history):
+            result = self.found_of(left)
+            if not isinstance(result, Unexplained | GivenUp):
+                return Chosen(self.told_without(left, result) + ended_told(ended))
+            first = first or result
+        assert isinstance(first, Unexplained | GivenUp)
+        return self.with_reason(first, NOT_BY_SIGNAL)
+
+    def told_without(self, history: Sequence[Noted], result: Answer) -> str:
+        """What is told of a history without the calls that a signal has ended."""
+        if not isinstance(result, Explained):
+            return self.unordered(result)
+        lines = verified(self.program, history, result.steps, self.args.limits)
+        return "\n".join([WITHOUT_ENDED, *map(moved_line, lines), ""])
+
+    def found_of(self, history: Sequence[Noted]) -> Answer:
         """Whether an order explains a history, with pipes as they are in fdref or with larger ones, with writes to them
         that go in at once or by parts, and if not why."""
         most = self.args.states, self.args.seconds
@@ -459,6 +487,26 @@ def whys_of(history: Sequence[Noted]) -> list[apart.Why]:
     has_pipes = any(noted.act.word in ("pipe", "mkfifo") for noted in history)
     sizes = pages.SIZES if has_pipes and put > pages.SIZES[0] else pages.SIZES[:1]
     return [apart.of_page(size, reason_or_limit) for size in sizes]
+
+
+def is_ended(noted: Noted) -> bool:
+    """Whether a signal has ended a call, by its page: it has changed nothing then."""
+    return noted.outcome == "error EINTR" and noted.act.word in MAY_BE_ENDED
+
+
+def without_ended(history: Sequence[Noted]) -> Iterator[list[Noted]]:
+    """A history without the calls that a signal has ended, and where that is a close also with it, as that is left
+    open."""
+    closes = [noted for noted in history if is_ended(noted) and noted.act.word == "close"]
+    yield [noted for noted in history if not is_ended(noted)]
+    if closes:
+        told = (noted._replace(outcome=UNKNOWN) if noted in closes else noted for noted in history)
+        yield [noted for noted in told if not is_ended(noted)]
+
+
+def ended_told(ended: Sequence[Noted]) -> str:
+    """What is told of the calls that a signal has ended: the first of them, with the reason, and how many there are."""
+    return f"left out, {several(len(ended), 'call')}:\n  {ended[0].text()}\n{BY_SIGNAL}\n"
 
 
 def lowest(history: Sequence[Noted]) -> int | None:

@@ -544,6 +544,48 @@ TURNS = [
 ]
 
 
+# Calls that a signal has ended, which changed nothing: a read and a write that wait or do not, an open, a close that has
+# closed its descriptor or not, and beside another choice. The nearest that are wrong: a byte is lost or written, a
+# descriptor is taken, a call whose page has no EINTR, and another wrong call.
+BY_SIGNAL = "reason: a signal ends a call (EINTR) (own; XSH 2.4.4)"
+ENDED = f"{TWO}20 30 p0 read 0 4 = error EINTR\n25 28 p1 write 1 x61 = 1\n40 41 p0 read 0 4 = x61\n"
+ENDED_WRITE = f"{HELD_100}20 21 p0 write 1 x62 = error EINTR\n22 23 p0 read 0 512 = 61*100\n"
+ENDED_CLOSE = f"{PIPED}4 5 p0 close 0 = error EINTR\n"
+ENDED_LINES = f"""an order explains it without the calls that a signal has ended
+  p0 join = 0
+  p0 pipe = 0 1
+  p0 fork = 1
+  p1 attach = ok
+  p1 write 1 x61 = 1
+  p0 read 0 4 = x61
+left out, 1 call:
+  20 30 p0 read 0 4 = error EINTR
+{BY_SIGNAL}
+"""
+BY_ENDED = [
+    ENDED,
+    ENDED_WRITE,
+    f"{JOINED}2 3 p0 mkfifo f = ok\n4 5 p0 open f r = error EINTR\n6 7 p0 open f r,nonblock = 0\n",
+    f"{ENDED_CLOSE}6 7 p0 getfl 0 = error EBADF\n",
+    f"{ENDED_CLOSE}6 7 p0 close 0 = ok\n8 9 p0 dup2 1 2 = error EINTR\n10 11 p0 dup 1 = 0\n",
+    f"{ROOMY}80 81 p0 read 0 9 = error EINTR\n",
+    f"{FILED}4 5 p0 pwrite 0 0 x61 = error EINTR\n6 7 p0 ftruncate 0 9 = error EINTR\n8 9 p0 fstat 0 = regular 0 1\n",
+    f"{PIPED}4 5 p0 fstat 0 = pipe 0 1\n6 7 p0 read 0 1 = error EINTR\n",
+]
+NOT_BY_ENDED = [
+    (ENDED.replace("40 41 p0 read 0 4 = x61", "40 - p0 read 0 4 = parked ?"), "p0 read 0 4 = parked ?"),
+    (ENDED_WRITE.replace("= 61*100\n", f"= x{'61' * 100}62\n"), f"p0 read 0 512 = x{'61' * 100}62"),
+    (f"{ENDED_CLOSE}6 7 p0 dup 1 = 2\n8 9 p0 close 0 = error EBADF\n", "p0 close 0 = error EBADF"),
+    (ENDED.replace("40 41 p0 read 0 4 = x61", "40 41 p0 read 0 4 = x62"), "p0 read 0 4 = x62"),
+]
+NO_EINTR = [
+    f"{PIPED}4 5 p0 getfl 0 = error EINTR\n",
+    f"{JOINED}2 3 p0 pipe = error EINTR\n",
+    f"{FILED}4 5 p0 lseek 0 0 cur = error EINTR\n",
+    f"{FILED}4 5 p0 link a b = error EINTR\n",
+]
+
+
 def chosen(call: str, answer: str, reason: str) -> str:
     """What is told of a call that fdref answers otherwise by its own choice."""
     return f"no order explains it, by a choice of fdref's own\n  {call}\nfdref answers {answer}\nreason: {reason}\n"
@@ -616,6 +658,15 @@ def reason_cases(program: str) -> Iterator[Case]:
     yield "after a call of no bytes", partial(is_bare, program, further, "error EBADF")
     for before, calls, end in OVERLAPPING:
         yield f"at once: {calls}", partial(ends_with, program, f"{before}{calls}\n", 1, end)
+    yield "a call that a signal has ended", partial(prints, program, ENDED, 0, ENDED_LINES)
+    for text in BY_ENDED:
+        yield f"ended by a signal: {text}", partial(ends_with, program, text, 0, BY_SIGNAL)
+    for text, call in NOT_BY_ENDED:
+        yield f"not ended by a signal: {text}", partial(fails, program, text, 1, f"{call}\n")
+        end = "that is told without the calls that a signal has ended"
+        yield f"not ended by a signal, which is told: {text}", partial(ends_with, program, text, 1, end)
+    for text in NO_EINTR:
+        yield f"no EINTR: {text}", partial(fails, program, text, 1, "= error EINTR\n")
     for text in BY_APPEND:
         yield f"to blame: {text}", partial(blames_pwrite, program, text)
     for text in NOT_BY_APPEND:
