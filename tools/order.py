@@ -50,7 +50,8 @@ signal ends a call (EINTR) (own)`. A close may have closed its descriptor, or no
 
 Where none explains a history a part of it is printed that has none either. In it `?` is an answer that does not
 matter, and END `-` with `?` is a call of which nothing else is known. Both may be asked, too. Then comes the call that
-makes it impossible, with those that overlap it, and the page of the standard. Where no calls overlap, what fdref
+makes it impossible, with those that overlap it, then others that may be wrong in its place, since an order explains all
+but the answer of one of them, and the page of the standard. Where no calls overlap, what fdref
 answers to it is told, and in place of the page how the system departs from the standard, if tools/compare.py knows. Of
 calls that overlap a reason is told as `perhaps` where not each that is answered otherwise has one: that of the first,
 in the order in which they came back. Histories that differ in their times alone are searched once.
@@ -111,6 +112,9 @@ from compare_limits import reason_or_limit
 from compare_reasons import APPENDED, OWN, told_reason
 from waits import Long, waits_for
 
+# What is told of other calls that may be wrong instead of the one that is to blame.
+OR_ONE = "or one of these does, as an order explains all others up to there without its answer, too:"
+NOT_ONE = "or rather one of these, as an order explains all others up to there without its answer, and not without that:"
 # What is told of a history that only larger pipes explain, and its reason.
 WHERE_ROOMY = f"where a pipe has room for {ROOMY.capacity:,} bytes"
 BY_ROOM = "reason: room of a pipe (own; page of write)"
@@ -378,8 +382,8 @@ class Orders:
         causes = apart.appended_by(placed, departs) if departs.reason is APPENDED else []
         place = next((calls.index((it.start, it.act)) for it in causes if (it.start, it.act) in calls), None)
         if place is None:
-            return self.with_reason(result, why)
-        return result._replace(blamed=with_overlapping(result.shrunk, place), page=why)
+            return self.with_reason(result._replace(others=()), why)
+        return result._replace(blamed=with_overlapping(result.shrunk, place), page=why, others=())
 
     def departed_before(self, history: Sequence[Noted], result: Result, whys: Sequence[apart.Why]) -> Result | None:
         """The same, where that is all up to the call that is to blame else, and something is wrong after it, too."""
@@ -436,7 +440,8 @@ class Orders:
         if not isinstance(result, Unexplained):
             return self.explained(ordered, self.args.limits)
         why = told_reason(first.reason) if first.reason else result.page
-        return result._replace(page=f"{self.answered(first)}\n{why}")
+        others = () if first.reason else result.others
+        return result._replace(page=f"{self.answered(first)}\n{why}", others=others)
 
     def answered(self, it: apart.Apart) -> str:
         """What fdref answers to a call."""
@@ -464,6 +469,8 @@ class Orders:
             return f"given up after {several(result.states, 'state')}\n" if isinstance(result, GivenUp) else ""
         parts = ["no order explains it, nor this part of it:", indented(result.shrunk)]
         parts += ["which this call makes impossible, with those that overlap it:", indented(result.blamed)]
+        if result.others:
+            parts += [OR_ONE if result.is_one else NOT_ONE, indented(result.others)]
         return "\n".join(parts) + f"\n{result.page}\n"
 
     def totals(self) -> str:

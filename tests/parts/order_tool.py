@@ -92,6 +92,33 @@ reason: room of a pipe (own; page of write)
 """
 
 
+# Reads at once that give the same byte, of which each may be the wrong one, with what is told; and others of which one
+# is wrong whatever the other is.
+SAME_BYTE = """0 1 p0 join = 0
+2 3 p0 pipe = 0 1
+4 5 p0 fork = 1
+6 7 p1 attach = ok
+12 13 p0 write 1 x616263 = 3
+20 30 p0 read 0 1 = x62
+22 32 p1 read 0 1 = x62
+40 41 p0 read 0 9 = x63
+"""
+SAME_BYTE_LINES = """no order explains it, nor this part of it:
+  0 1 p0 join = 0
+  2 3 p0 pipe = 0 1
+  4 5 p0 fork = 1
+  6 7 p1 attach = ok
+  12 13 p0 write 1 x616263 = ?
+  20 30 p0 read 0 1 = x62
+  22 32 p1 read 0 1 = x62
+which this call makes impossible, with those that overlap it:
+  22 32 p1 read 0 1 = x62
+  20 30 p0 read 0 1 = x62
+or one of these does, as an order explains all others up to there without its answer, too:
+  20 30 p0 read 0 1 = x62
+page of read: a pipe or FIFO
+"""
+ONE_WRONG = SAME_BYTE.replace("32 p1 read 0 1 = x62", "32 p1 read 0 1 = x64")
 JOINED = "0 1 p0 join = 0\n"
 FILED = f"{JOINED}2 3 p0 open a rw,creat = 0\n"
 PIPED = f"{JOINED}2 3 p0 pipe = 0 1\n"
@@ -736,6 +763,12 @@ def fails(program: str, text: str, status: int, why: str, *options: str) -> None
     ran = told(program, text, *options)
     same(status, ran.status)
     require(why in (ran.stderr + ran.stdout).decode(), ran.said())
+
+
+def says_no_others(program: str, text: str) -> None:
+    """The tool blames one call, and no other in its place."""
+    ran = told(program, text)
+    require(ran.status == 1 and b"\nor " not in ran.stdout, ran.said())
 
 
 def reads_a_file(program: str) -> None:
@@ -1581,6 +1614,8 @@ def cases(program: str) -> Iterator[Case]:
     yield "an order", partial(prints, program, GOOD, 0, GOOD_LINES)
     yield "an order with flags and names", partial(prints, program, RENAMED, 0, RENAMED_LINES)
     yield "no order", partial(prints, program, BAD, 1, BAD_LINES)
+    yield "two that may be wrong", partial(prints, program, SAME_BYTE, 1, SAME_BYTE_LINES)
+    yield "one that is wrong", partial(says_no_others, program, ONE_WRONG)
     yield "several histories", partial(prints, program, four, 1, several)
     yield "a larger pipe", partial(prints, program, ROOMY, 0, ROOMY_LINES)
     both = f"history 1: {ROOMY_LINES}history 2: {GOOD_LINES}"

@@ -1,8 +1,8 @@
 """Orders of a history in which a write to a pipe that is not to wait takes what reads free while it goes on.
 
-Such a write of more than PIPE_BUF bytes ends when the pipe is full. Where a read goes on at the same time, the write may
-have filled the pipe before it, and take some of what the read frees. So it gives no fewer bytes than there was room for
-at some moment of its time, and no more than went in with what the reads of that time have freed.
+Such a write of more than PIPE_BUF bytes ends when the pipe is full. Where a read goes on at the same time, the write
+may have filled the pipe before it, and take some of what the read frees. So it gives no fewer bytes than there was room
+for at some moment of its time, and no more than went in with what the reads of that time have freed.
 """
 
 from collections.abc import Iterator, Mapping, Sequence

@@ -22,13 +22,15 @@ from support.pieces import Rewrite, rests_in, rewritten, unblocked
 from support.plain_model import DEFAULTS, PIPE_BUF, PIPE_CAPACITY_MOST, Limits
 from support.searching import Search, Step, TooLong
 from support.sharing import Sharing, are_of_one_pipe, in_turns
-from support.shortening import Shortening
+from support.shortening import KEPT, Shortening, up_to, without_answers
 
 STATES_MOST = 1_000_000
 SECONDS = 60
 SHRINK_SECONDS = 20
 # A search for a shorter part may take so many times as long as that of the whole, or so long.
 EACH_TIMES, EACH_LEAST = 4, 0.5
+# How long it is looked for other calls that may be to blame, and at how many of them.
+OTHERS_SECONDS, OTHERS_MOST = 5.0, 4
 # How long it is looked for parts of small writes.
 PARTS_SECONDS = 5.0
 # A run in which a pipe holds as many bytes as it does on many a system: more than where nothing else is asked for.
@@ -127,11 +129,14 @@ class BySmallParts(NamedTuple):
 
 class Unexplained(NamedTuple):
     """A history that no order explains: a small part of it that none explains either, the call that makes it impossible
-    with those that overlap it, and the page of the standard that it is about."""
+    with those that overlap it, and the page of the standard that it is about. Then other calls without whose answers an
+    order explains all up to that one, and whether one does so without the answer of that one."""
 
     shrunk: list[Noted]
     blamed: list[Noted]
     page: str
+    others: Sequence[Noted] = ()
+    is_one: bool = True
 
 
 class GivenUp(NamedTuple):
@@ -165,7 +170,8 @@ def explain(
     shrunk = Shortening(limits, states_most, shrink_seconds, each).shortest(ordered)
     blamed = blamed_in(shrunk)
     torn = torn_by(ordered, blamed[0], limits, states_most) if shrink_seconds > 0 else None
-    return Unexplained(shrunk, blamed, page_of(shrunk, blamed[0], torn))
+    found = Unexplained(shrunk, blamed, page_of(shrunk, blamed[0], torn))
+    return with_others(found, ordered, limits, states_most) if shrink_seconds > 0 else found
 
 
 def by_room(history: Sequence[Noted], states_most: int = STATES_MOST, seconds: float = SECONDS) -> ByRoom | None:
@@ -390,6 +396,24 @@ def torn_by(history: Sequence[Noted], blamed: Noted, limits: Limits, states_most
 def blamed_in(history: Sequence[Noted]) -> list[Noted]:
     """The call that makes a history impossible, with those that overlap it."""
     return with_overlapping(history, max(range(len(history)), key=lambda place: blame(history[place])))
+
+
+def with_others(found: Unexplained, history: Sequence[Noted], limits: Limits, states_most: int) -> Unexplained:
+    """What is found, with the other calls that may be wrong instead of the one that is to blame: each that is left in
+    the short part with its answer, if an order explains all up to there without that."""
+    first = found.blamed[0]
+    known = [it for it in found.shrunk if it.outcome != UNKNOWN and it.act.word not in KEPT and it != first]
+    begun = up_to(history, first.end) if known and first.end is not None else list(history)
+    until = time.monotonic() + OTHERS_SECONDS
+
+    def is_right_without(noted: Noted) -> bool:
+        with contextlib.suppress(TooLong):
+            told = without_answers(begun, {noted})
+            return Search(told, limits, states_most, until - time.monotonic()).order() is not None
+        return False
+
+    others = [it for it in known[-OTHERS_MOST:] if is_right_without(it)]
+    return found._replace(others=others, is_one=is_right_without(first)) if others else found
 
 
 def with_overlapping(history: Sequence[Noted], place: int) -> list[Noted]:
