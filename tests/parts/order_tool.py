@@ -993,8 +993,11 @@ FREED += "30 40 p1 read 0 500 = 61*500\n"
 FULL_FREED = FREED.replace("20 60", "12 13 p0 write 1 61*24 = 24\n20 60")
 TWO_FREED = f"{FREED.replace('= 300', '= 600')}42 43 p1 read 0 510 = x{'61' * 500}{'62' * 10}\n"
 OWN_FREED = FREED.replace("= 300", "= 1048").replace("read 0 500 = 61*500", f"read 0 1024 = x{'61' * 1000}{'62' * 24}")
+REST_FREED = FREED.replace("61*1000 = 1000", "61*500 = 500").replace("62*2000 = 300", "62*600 = 400")
+REST_FREED = REST_FREED.replace("500 = 61*500\n", f"600 = x{'61' * 500}{'62' * 100}\n")
 FREEINGS = [
     FREED,
+    REST_FREED.replace("= 400", "= 530").replace("600 = x", "700 = x").replace("6262\n", f"6262{'62' * 100}\n"),
     FREED.replace("= 300", "= 523"),
     FULL_FREED,
     TWO_FREED,
@@ -1002,6 +1005,7 @@ FREEINGS = [
     f"{FREED}62 63 p1 read 0 1024 = x{'61' * 500}{'62' * 300}\n",
 ]
 NO_FREEINGS = [
+    REST_FREED,
     FREED.replace("= 300", "= 23"),
     FREED.replace("= 300", "= 525"),
     FULL_FREED.replace("= 300", "= 501"),

@@ -8,11 +8,12 @@ for at some moment of its time, and no more than went in with what the reads of 
 from collections.abc import Iterator, Mapping, Sequence
 
 from support.footprints import Touch
-from support.histories import Noted
+from support.histories import WAITS, Noted
 from support.pieces import ends_in, is_past_most, is_short, with_data
-from support.plain_model import Limits
+from support.plain_model import PIPE_BUF, Limits
 from support.searching import Call, Place, Search, Step
-from support.sharing import data_of, file_of, is_of_pipe
+from support.sharing import data_of, file_of, held, is_of_pipe
+from support.worlds import behind
 
 
 def writes_beside_reads(history: Sequence[Noted], touches: Sequence[Touch]) -> list[int]:
@@ -34,6 +35,7 @@ class Freeing(Search):
 
     def __init__(self, history: Sequence[Noted], limits: Limits, states_most: int, seconds: float) -> None:
         super().__init__(history, limits, states_most, seconds)
+        self.capacity = limits.capacity
         places = writes_beside_reads(history, self.touches)
         ends: Mapping[int, set[int]] = ends_in(history) if places else {}
         # where the turns of each such write may end, by its bit
@@ -60,16 +62,26 @@ class Freeing(Search):
         a read does, or all that it has put in at last."""
         put, was_full = divmod(place.taken[at], 2)
         data, most = call.act.fields[1], int(call.outcome)
-        act = with_data(call.act, data[put:])
-        outcome, state = self.states.after(place.state, act)
-        moved = 0 if outcome == "error EAGAIN" else int(outcome) if outcome and outcome.isdigit() else None
+        step, state = self.filling(place, call, data[put:])
+        moved = 0 if step.outcome == "error EAGAIN" else int(step.outcome) if step.outcome.isdigit() else None
         if moved is not None and moved < len(data) - put and put + moved <= most and (moved or not was_full):
-            yield from self.after_turn(Step(act, outcome or ""), place, at, call, (state, put + moved, True))
+            yield from self.after_turn(step, place, at, call, (state, put + moved, True))
         for end in (it for it in self.ends[call.bit] if put < it <= most):
             act = with_data(call.act, data[put:end])
             outcome, state = self.states.after(place.state, act)
             if outcome == str(end - put):
                 yield from self.after_turn(Step(act, outcome), place, at, call, (state, end, bool(was_full)))
+
+    def filling(self, place: Place, call: Call, left: bytes) -> tuple[Step, int]:
+        """A write of what is left, or of what there is room for where the model would put in all or nothing, and the
+        state after it: where it moves fewer bytes than are left, and is not to wait, the pipe is full."""
+        now = self.states.all[place.state]
+        room = self.capacity - len(held(now, call.noted.process, call.act.fields[0]))
+        is_small = 0 < room < len(left) <= PIPE_BUF
+        act = with_data(call.act, left[:room] if is_small else left)
+        outcome, state = self.states.after(place.state, act)
+        waits = is_small and outcome == str(room) and not behind(now, call.noted.process, call.act.fields[0])[3]
+        return Step(act, WAITS if waits or outcome is None else outcome), state
 
     def after_turn(
         self, step: Step, place: Place, at: int, call: Call, told: tuple[int, int, bool]
