@@ -492,7 +492,7 @@ class Excuses:
         if not placed or (not found and placed is others.history):
             return self.history, []
         for noted in sorted(late, key=lambda noted: noted.start):
-            begun = with_late(placed, noted, room, why)
+            begun = with_late(placed, noted, room, why, found[-1].instead if found else NOTHING)
             if not begun:
                 return self.history, []
             placed, it = begun
@@ -557,14 +557,22 @@ def beside_choice(
     return (chosen, placed, found) if found and is_all else None
 
 
-def with_late(history: Sequence[Noted], late: Noted, limits: Limits, why: Why) -> tuple[list[Noted], Apart] | None:
+def with_late(
+    history: Sequence[Noted], late: Noted, limits: Limits, why: Why, instead: Instead
+) -> tuple[list[Noted], Apart] | None:
     """A history in this order with a write that waits at its end, where that may have begun to wait, and how the model
-    answers it, with no reason where that waits too; or None where it has no reason to wait."""
+    answers it, with no reason where that waits too; or None where it has no reason to wait. Of an empty pipe no write
+    waits without having put in what others would read."""
     first = max((at + 1 for at, noted in enumerate(history) if noted.precedes(late)), default=0)
+    held = [held_behind(history[:at], late, limits, instead) for at in range(first, len(history) + 1)]
     for place in range(first, len(history) + 1):
+        if not all(held[place - first :]):
+            continue
         placed = [*history[:place], late, *history[place:]]
-        whole = Beside(placed, limits)
-        it, _ = apart_at(placed, place, whole, limits, {}, why)
+        acts = moved_on(instead, place)
+        whole = Beside(placed, limits, instead=acts)
+        it, _ = apart_at(placed, place, whole, limits, {}, why, acts)
+        it = it._replace(instead=acts)
         if is_given(late, whole.answers[place]):
             return placed, it._replace(reason=None)
         if it.reason and it.reason.who == OWN and may_wait_on(it):
@@ -572,10 +580,21 @@ def with_late(history: Sequence[Noted], late: Noted, limits: Limits, why: Why) -
     return None
 
 
+def held_behind(history: Sequence[Noted], late: Noted, limits: Limits, instead: Instead) -> int:
+    """How many bytes the pipe holds after some calls to which a call writes later; none where it is no pipe."""
+    process = Beside(history, limits, instead=instead).run.world.processes.get(late.process)
+    at = process.table.get(late.act.fields[0]) if process else None
+    return len(at.pipe.data) if at and at.pipe else 0
+
+
+def moved_on(instead: Instead, place: int) -> Instead:
+    """The acts that are given instead of some calls, once another call was put in at a place."""
+    return {at + (at >= place): acts for at, acts in instead.items()}
+
+
 def shifted(it: Apart, place: int) -> Apart:
     """A call that is answered otherwise, once another one was put in at a place before it or after it."""
-    instead = {at + (at >= place): acts for at, acts in it.instead.items()}
-    return it._replace(place=it.place + (it.place >= place), instead=instead)
+    return it._replace(place=it.place + (it.place >= place), instead=moved_on(it.instead, place))
 
 
 def may_wait_on(it: Apart) -> bool:

@@ -1527,6 +1527,9 @@ NO_LATES = [
     LATE_WAITS.replace("62*5000 = 5000", "62*5000 = 5001"),
     LATE_WAITS.replace("0 3000 = 61*3000", "0 3000 = 62*3000"),
     LATE_GETS.replace("22 28", "17 18"),
+    # a pipe that is empty meanwhile has room
+    f"{THREE}12 13 p1 setfl 0 -,nonblock = ok\n{LATE_WAITS[len(THREE) :].replace('12 13', '14 15')}"
+    "54 55 p1 read 0 65536 = x" + "61" * 53808 + "62" * 5000 + "\n56 57 p1 read 0 1 = error EAGAIN\n",
     LATE_GETS.replace("= 4096", "= 4095"),
     LATE_GETS.replace("0 5000 = 61*5000", "0 65000 = 61*65000"),
 ]
