@@ -486,7 +486,8 @@ class Excuses:
         if not late:
             return self.history, []
         others = Excuses(rest, self.states_most, self.seconds)
-        placed, found = others.order(World, frozenset(), room), []
+        placed = others.order(World, frozenset(), room)
+        found: list[Apart] = []
         if not placed:
             placed, found = others.found_by_search(room, why)
         if not placed or (not found and placed is others.history):
