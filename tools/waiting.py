@@ -8,22 +8,23 @@ what its clients wait for. Of each process that is there a line says in what cal
 has the other end of the pipe or FIFO; or that the call can go on, so that its resume is due; that it waits in no call;
 or that it was forked and has no connection. A line tells, too, of each process that ended in a call that could go on,
 since which record it could. Its wake is lost, or its turn had not come, if a call of others was recorded meanwhile: no
-page says how soon one goes on that can. Where there were but exits the run may only have been ended.
-But where the header has a number of records, as that of `fdref serve`, or version 1, a connection may have been lost in
-that moment, or the run had no record for the resume: that says nothing of a wake. --no-connections says that nobody
-who wrote TRACE has a connection that can be lost, as an emulator has none. Then it tells how many bytes of a
+page says how soon one goes on that can. Where there were but exits it may only have been ended, or the run. But where
+the header has a number of records, as that of `fdref serve`, or version 1, a connection may have been lost in that
+moment, or the run had no record for the resume since then: that says nothing of a wake. --no-connections says that
+nobody who wrote TRACE has a connection that can be lost, as an emulator has none. Then it tells how many bytes of a
 record that is not whole are left over, as a server leaves them that was killed. The last line counts the processes.
 What a server has answered stands in TRACE about a millisecond later. Whether a client reads its answers it does not
 tell: one that does not waits in no call. Nor does a trace have the number of sessions, or a connection that has sent
 nothing yet, which takes one of them: while a run goes on, a line says so.
 
 A call that can go on has lost its wake where a server that still writes TRACE, which it locks, has no resume of it for
-a third of a second, unless that server is stopped or held up. Of a trace that no server writes any more, as one that was killed, that is known only where no
-connection can have been lost, and others were recorded since; else the trace ends there, and that is told.
+a third of a second, unless that server is stopped or held up. Of a trace that no server writes any more, as one that
+was killed, that is known only where no connection can have been lost, and others were recorded since; else the trace
+ends there, and that is told.
 
 Exit status: 0 where a process that has a connection waits in no call, or there is none; 1 where all of them wait, and
-the call of none can go on, or where a wake is lost by these rules, also of one that has ended; 2 for wrong words; 3 where TRACE cannot
-be read, or is malformed or illegal.
+the call of none can go on, or where a wake is lost by these rules, also of one that has ended; 2 for wrong words; 3
+where TRACE cannot be read, or is malformed or illegal.
 """
 
 import argparse
@@ -49,10 +50,11 @@ RESUME_SECONDS = 0.3
 # How much of a call is shown.
 CALL_SHOWN = 60
 
-# What is told of a call that could go on, and has no resume: that its wake is lost, where a server writes the trace still
-# or others have been recorded since, or else what may be why, the last two where a server may have written that.
+# What is told of a call that could go on, and has no resume: that its wake is lost, where a server writes the trace
+# still or others have been recorded since, or else what may be why, the last two where a server may have written that.
 WAKE_LOST = ": its wake is lost, or its turn had not come"
 HELD_UP = ": its wake is lost, or the server is stopped or held up"
+ITS_END = ": its wake is lost, or it was only ended"
 ONLY_ENDED = ": its wake is lost, or the run was only ended"
 ANY_LOST = ": its wake is lost, or its connection was"
 NO_ROOM = ", and no record was free for its resume"
@@ -76,8 +78,8 @@ class BadTrace(Exception):
 class Watching(Judge):
     """The model beside the records of a trace, which notes who ends in a call that could go on."""
 
-    # the place of the exit of each, and how many records the run must have where its resume had room
-    ended: dict[int, tuple[int, int]]
+    # the place of the exit of each
+    ended: dict[int, int]
 
     def __init__(self, limits: Limits = DEFAULTS) -> None:
         super().__init__(limits)
@@ -86,9 +88,15 @@ class Watching(Judge):
     def end(self, process: Process) -> None:
         """Ends a process."""
         if process.waits and process.waits.is_ready(self.world):
-            reserve = len(self.world.processes) + (not self.world.is_closed)
-            self.ended[process.number] = self.records, self.records + 1 + reserve
+            self.ended[process.number] = self.records
         super().end(process)
+
+
+class Since(NamedTuple):
+    """The record since which a call can go on, and how many records a run must have where its resume had room then."""
+
+    place: int
+    wanted: int
 
 
 class Unwoken(NamedTuple):
@@ -112,16 +120,20 @@ class Unwoken(NamedTuple):
         return f"p{self.number} ended at record {self.exit} in {shown} of record {place}, {since}{self.why}"
 
 
-def ready_since(audit: Audit, numbers: Collection[int]) -> dict[int, int]:
-    """The places of the records since which the calls of some processes can go on, or could before their exits. Where
-    there are some the trace is gone through again."""
-    ready: dict[int, int] = {}
+def ready_since(audit: Audit, numbers: Collection[int]) -> dict[int, Since]:
+    """Since when the calls of some processes can go on, or could before their exits. One that has gone on by a part can
+    since then. Where there are some the trace is gone through again."""
+    ready: dict[int, Since] = {}
     again = Judge(audit.judge.world.limits)
     for place, text in enumerate(audit.frames.lines if numbers else []):
-        again.outcome_of(act_of(line_of(text).act))
+        act = act_of(line_of(text).act)
+        again.outcome_of(act)
+        # its own record, one for each that has to end, and the closing
+        since = Since(place, place + 2 + len(again.world.processes) + (not again.world.is_closed))
         for process in (again.world.processes.get(number) for number in numbers):
             if process and process.waits and process.waits.is_ready(again.world):
-                ready.setdefault(process.number, place)
+                has_gone_on = act.word == "resume" and act.actor == process.number
+                ready[process.number] = since if has_gone_on else ready.get(process.number, since)
             elif process:
                 ready.pop(process.number, None)
     return ready
@@ -133,24 +145,22 @@ def unwoken_in(audit: Audit, is_served: bool) -> list[Unwoken]:
     ended = audit.judge.ended
     ready = ready_since(audit, ended)
     return [
-        Unwoken(number, ready[number], place, why_unwoken(audit, is_served, ready[number], place, wanted))
-        for number, (place, wanted) in ended.items()
+        Unwoken(number, ready[number].place, place, why_unwoken(audit, is_served, ready[number], place))
+        for number, place in ended.items()
     ]
 
 
-def why_unwoken(audit: Audit, is_served: bool, since: int, place: int, wanted: int) -> str:
-    """Why a call has no resume that could go on since a record, until the exit at a place, where it had wanted a run of
-    so many records."""
-    if audit.records and wanted > audit.records:
+def why_unwoken(audit: Audit, is_served: bool, since: Since, place: int) -> str:
+    """Why a call has no resume that could go on since a record, until the exit at a place. Room for a resume that is
+    gone does not come back: what ends leaves no more than its own exit takes."""
+    if audit.records and since.wanted > audit.records:
         return NO_ROOM
     if is_served:
         return ANY_LOST
     words = [line_of(text).act.split(" ")[1] for text in audit.frames.lines]
-    if not are_exits(words[since + 1 : place]):
+    if not are_exits(words[since.place + 1 : place]):
         return WAKE_LOST
-    if not are_exits(words[place:]):
-        return WAKE_LOST if place > since + 1 else ""
-    return ONLY_ENDED
+    return ONLY_ENDED if are_exits(words[place:]) else ITS_END
 
 
 def are_exits(words: Sequence[str]) -> bool:
@@ -201,7 +211,13 @@ class Standing:
         """The processes whose calls can go on, and after others have been recorded since."""
         since = ready_since(self.audit, {number for number, _ in self.due()})
         words = [line_of(text).act.split(" ")[1] for text in self.audit.frames.lines]
-        return {number for number, place in since.items() if not are_exits(words[place + 1 :])}
+        return {number for number, one in since.items() if not are_exits(words[one.place + 1 :])}
+
+    def due_before(self, first: "Standing") -> set[int]:
+        """The processes whose calls could go on at the end of a trace that this one goes on from, and can all the time
+        since."""
+        since = ready_since(self.audit, {number for number, _ in first.due() & self.due()})
+        return {number for number, one in since.items() if one.place < len(first.audit.frames.lines)}
 
     def holders(self, process: Process) -> Iterator[str]:
         """Those who have the other end of the pipe that a process waits at."""
@@ -298,7 +314,7 @@ def standing_in(path: Path, has_no_connections: bool = False) -> Standing:
         time.sleep(RESUME_SECONDS)
         later = path.read_bytes()
         standing = first if later == trace else Standing(later, has_no_connections)
-        late = {number for number, _ in first.due() & standing.due()}
+        late = standing.due_before(first)
         standing.is_written = is_written and is_locked(path)
         standing.lost = late if standing.is_written else set() if standing.is_served else late & standing.passed()
     return standing

@@ -150,7 +150,18 @@ BY_HAND: list[tuple[str, list[str], str, int]] = [
     (
         "an end just as the call could go on",
         [*WRITTEN, "7 p1 exit = ok", "8 p0 close 0 = ok", "9 p0 exit = ok", "10 house close-run = ok"],
-        f"p1 ended at record 7 in read 0 5 of record 5, which could go on since record 6\n{GONE}",
+        "p1 ended at record 7 in read 0 5 of record 5, which could go on since record 6: "
+        f"its wake is lost, or it was only ended\n{GONE}",
+        0,
+    ),
+    (
+        "an end after the exit of another, while one that has ended neither goes on",
+        [*BOTH, "4 p0 fork = 2", "5 p2 attach = ok", "6 p2 close 0 = ok", "7 p2 close 1 = ok", "8 p1 close 1 = ok"]
+        + ["9 p0 fork = 3", "10 p3 attach = ok", "11 p3 close 1 = ok", "12 p1 read 0 5 = parked 0"]
+        + ["13 p0 close 1 = ok", "14 p2 exit = ok", "15 p1 exit = ok", "16 p3 read 0 1 = x", "17 p3 exit = ok"]
+        + ["18 p0 exit = ok", "19 house close-run = ok"],
+        "p1 ended at record 15 in read 0 5 of record 12, which could go on since record 13: "
+        f"its wake is lost, or it was only ended\n{GONE.replace('2 so', '4 so')}",
         0,
     ),
     (
@@ -163,9 +174,12 @@ BY_HAND: list[tuple[str, list[str], str, int]] = [
 # What else is told where a server may have written the trace of such an end: a header, and what is told.
 SERVED = [
     ("a number of records", header_bytes(12), ": its wake is lost, or its connection was"),
-    ("no record for a resume", header_bytes(11), ", and no record was free for its resume"),
+    ("no record for a resume but that of another call", header_bytes(11), ": its wake is lost, or its connection was"),
     ("version 1", OLD_MAGIC, ": its wake is lost, or its connection was"),
 ]
+# The same where no other call comes, and there is no record for the resume.
+FULL = [*WRITTEN, "7 p0 exit = ok", "8 p1 exit = ok", "9 house close-run = ok"]
+FULL_TOLD = f"{ENDED.replace('record 9', 'record 8')}, and no record was free for its resume"
 
 
 def told(trace: bytes, *options: str, is_locked: bool = False) -> Ran:
@@ -195,8 +209,10 @@ def unserved() -> None:
     gone = GONE.replace("with a connection", "that have begun")
     wanted = f"{ENDED}: {WAKE}\n{gone}{NEVER}\n"
     same(Ran(1, wanted.encode(), b""), told(trace_of(LEFT, header_bytes(12)), "--no-connections"))
-    wanted = f"{ENDED}, and no record was free for its resume\n{gone}\n"
-    same(Ran(0, wanted.encode(), b""), told(trace_of(LEFT, header_bytes(11)), "--no-connections"))
+    same(Ran(1, wanted.encode(), b""), told(trace_of(LEFT, header_bytes(11)), "--no-connections"))
+    wanted = f"{FULL_TOLD}\n{gone}\n"
+    same(Ran(0, wanted.encode(), b""), told(trace_of(FULL, header_bytes(10)), "--no-connections"))
+    same(Ran(0, f"{FULL_TOLD}\n{GONE}\n".encode(), b""), told(trace_of(FULL, header_bytes(10))))
     wanted = "p0 waits in no call\np1 was forked and has made no call\n"
     wanted += "2 processes, 1 that have begun (1 so far), 0 of which wait\n"
     same(Ran(0, wanted.encode(), b""), told(trace_of(PAIR), "--no-connections"))
@@ -229,20 +245,32 @@ def long_is_told() -> None:
     same("waiting.py: goes through a trace\n", said.getvalue())
 
 
-def later_is_looked_at() -> None:
-    """A call that can go on, and is taken up a little later, has no wake that is lost."""
-    records = [*BOTH, "4 p1 read 0 1 = parked 0", "5 p0 write 1 x78 = 1"]
-    whole = trace_of([*records, "6 p1 resume = x78"])
+def looked_at(records: list[str], later: list[str]) -> waiting.Standing:
+    """Where processes stand after records that a server writes, which has written others too as it is looked again."""
     with tempfile.NamedTemporaryFile(prefix="fdref-") as file:
-        file.write(trace_of(records))
+        file.write(trace_of(records, header_bytes(99)))
         file.flush()
+        fcntl.flock(file, fcntl.LOCK_EX)
 
         def write_on(_: float) -> None:
-            Path(file.name).write_bytes(whole)
+            Path(file.name).write_bytes(trace_of([*records, *later], header_bytes(99)))
 
         with mock.patch.object(waiting.time, "sleep", write_on):
-            standing = waiting.standing_in(Path(file.name))
+            return waiting.standing_in(Path(file.name))
+
+
+def later_is_looked_at() -> None:
+    """A call that can go on, and is taken up a little later, has no wake that is lost: also one that has moved a part
+    and can go on again, or whose bytes another has taken meanwhile. One that can all the time has."""
+    records = [*BOTH, "4 p1 read 0 1 = parked 0", "5 p0 write 1 x78 = 1"]
+    standing = looked_at(records, ["6 p1 resume = x78"])
     same((set(), "p1 waits in no call"), (standing.lost, standing.lines()[1]))
+    standing = looked_at(records, ["6 p0 lseek 9 0 set = error EBADF"])
+    same(({1}, f"p1 waits in read 0 1 since record 4, and can go on: {HELD_UP}"), (standing.lost, standing.lines()[1]))
+    taken = ["6 p0 read 0 1 = x78", "7 p0 write 1 x78 = 1"]
+    same(set(), looked_at(records, taken).lost)
+    records = [*BOTH, f"4 p0 write 1 x{'61' * 2000} = parked 1024", "5 p1 read 0 1 = x61"]
+    same(set(), looked_at(records, ["6 p0 resume = part 1025", "7 p1 read 0 1 = x61"]).lost)
 
 
 def nothing_is_told() -> None:
@@ -322,11 +350,11 @@ def random_case(seed: str, number: int) -> None:
         if act.word == "exit" and isinstance(act.actor, int) and act.actor in ready:
             ended.append(f"p{act.actor} ended")
             since = ready[act.actor]
-            meanwhile, later = acts[since + 1 : place], acts[place:]
-            is_lost = is_lost or not are_exits(meanwhile) or (not are_exits(later) and bool(meanwhile))
+            is_lost = is_lost or not are_exits(acts[since + 1 : place])
         judge.outcome_of(act)
         can = [it.number for it in judge.world.processes.values() if it.waits and it.waits.is_ready(judge.world)]
-        ready = {number: ready.get(number, place) for number in can}
+        gone_on = {act.actor} if act.word == "resume" else set()
+        ready = {number: place if number in gone_on else ready.get(number, place) for number in can}
     there = sorted(judge.world.processes.values(), key=lambda one: one.number)
     wanted = []
     for it in there:
