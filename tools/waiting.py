@@ -15,7 +15,7 @@ nobody who wrote TRACE has a connection that can be lost, as an emulator has non
 record that is not whole are left over, as a server leaves them that was killed. The last line counts the processes.
 What a server has answered stands in TRACE about a millisecond later. Whether a client reads its answers it does not
 tell: one that does not waits in no call. Nor does a trace have the number of sessions, or a connection that has sent
-nothing yet, which takes one of them: while a run goes on, a line says so.
+nothing yet, which takes one of them: while a run goes on, a line says so, or that no server writes TRACE now.
 
 A call that can go on has lost its wake where a server that still writes TRACE, which it locks, has no resume of it for
 a third of a second, unless that server is stopped or held up. Of a trace that no server writes any more, as one that
@@ -67,8 +67,9 @@ NO_TRACE = "it does not begin with FDTRACE1 or FDTRACE2, as a trace does"
 # What is told where all wait, and a child that was forked has made no call yet.
 BEGINS = ", but one that was forked may begin"
 
-# What is told of a run that goes on.
+# What is told of a run that goes on, and of one that was broken off.
 UNSEEN = "a connection that has sent nothing yet is not seen"
+LEFT_OFF = "no server writes this trace any more: its run was broken off here"
 
 
 class BadTrace(Exception):
@@ -185,6 +186,8 @@ class Standing:
         self.connections = 0
         # whether a server writes the trace still, and whether one may have written it
         self.is_written = False
+        # whether a server has written it that does no more, and has not closed the run
+        self.is_left_off = False
         self.has_no_connections = has_no_connections
         self.is_served = bool(audit.records or self.world.limits == OLD_LIMITS) and not has_no_connections
         # the calls that can go on, and whose wakes are lost: those of these processes
@@ -257,6 +260,8 @@ class Standing:
     def beside(self) -> list[str]:
         """What is left over of the trace, and what it does not tell."""
         rest = [f"{several(self.rest, 'byte')} left over after the last whole record"] if self.rest else []
+        if self.is_left_off:
+            return [*rest, LEFT_OFF]
         return rest + ([] if self.world.is_closed or self.has_no_connections else [UNSEEN])
 
     def lines(self) -> list[str]:
@@ -267,7 +272,7 @@ class Standing:
         begun = "that have begun" if self.has_no_connections else "with a connection"
         last = f"{several(len(processes), 'process', 'processes')}, {len(attached)} {begun} "
         last += f"({self.connections} so far), {waiting} of which wait"
-        if not attached and not self.world.is_closed and not self.has_no_connections:
+        if not (attached or self.world.is_closed or self.has_no_connections or self.is_left_off):
             last += ": a server that goes on waits for connections"
         if self.all_wait():
             last += ": none goes on by itself" + (BEGINS if len(attached) < len(processes) else "")
@@ -307,15 +312,17 @@ def standing_in(path: Path, has_no_connections: bool = False) -> Standing:
         raise BadTrace("it is a socket; the trace of a server is the file of its --trace")
     trace = path.read_bytes()
     with Long(f"goes through a trace of {len(trace):,} bytes, record by record", "waiting.py"):
+        is_written = is_locked(path)
         first = Standing(trace, has_no_connections)
+        first.is_left_off = first.is_served and not first.world.is_closed and not is_written
         if not first.due():
             return first
-        is_written = is_locked(path)
         time.sleep(RESUME_SECONDS)
         later = path.read_bytes()
         standing = first if later == trace else Standing(later, has_no_connections)
         late = standing.due_before(first)
         standing.is_written = is_written and is_locked(path)
+        standing.is_left_off = standing.is_served and not standing.world.is_closed and not is_locked(path)
         standing.lost = late if standing.is_written else set() if standing.is_served else late & standing.passed()
     return standing
 

@@ -218,6 +218,16 @@ def unserved() -> None:
     same(Ran(0, wanted.encode(), b""), told(trace_of(PAIR), "--no-connections"))
 
 
+def left_off() -> None:
+    """Of a server's trace that nobody writes any more, before the run was closed, that is told; while it is written,
+    what is not seen."""
+    last = "2 processes, 1 with a connection (1 so far), 0 of which wait"
+    broken = "no server writes this trace any more: its run was broken off here"
+    for is_locked, line in ((True, UNSEEN), (False, broken)):
+        ran = told(trace_of(PAIR, header_bytes(99)), is_locked=is_locked)
+        same((0, [line, last]), (ran.status, ran.stdout.decode().splitlines()[2:]))
+
+
 def broken_off() -> None:
     """A call that can go on has lost its wake where a server still writes the trace, and else by what was recorded since
     alone, if no connection can have been lost."""
@@ -392,6 +402,7 @@ def cases(seed: str, count: int) -> Iterator[Case]:
         yield f"an end in a call that could go on, {name}", partial(served, header, why)
     yield "a trace without connections", unserved
     yield "a trace that breaks off, or goes on", broken_off
+    yield "a trace that no server writes any more", left_off
     yield "what takes long", long_is_told
     yield "what is not seen", nothing_is_told
     yield "a call that is taken up later", later_is_looked_at
