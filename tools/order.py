@@ -46,7 +46,8 @@ is short for want of space is none, as it cannot be told from a wrong one; nor i
 A FIFO opened for both, which the standard leaves undefined, is one: it counts as one open of each end in what comes
 after, which only the model judges, as fdref refuses it. Where that explains nothing its reads and writes are left out.
 A signal may end a call with EINTR, where the page of that has it: such a call has changed nothing, and is left out: `a
-signal ends a call (EINTR) (own)`. A close may have closed its descriptor, or not. All else is judged.
+signal ends a call (EINTR) (own)`. A close may have closed its descriptor, or not. All else is judged. That a signal has
+ended a write which has moved a part, and so gives its count, no history tells: such a count is taken for a wrong one.
 
 Where none explains a history a part of it is printed that has none either. In it `?` is an answer that does not
 matter, and END `-` with `?` is a call of which nothing else is known. Both may be asked, too. Then comes the call that
@@ -364,7 +365,7 @@ class Orders:
         if not found and (apart.is_out_of_room(ordered, limits, whys[0]) or self.is_by_room(result)):
             other = self.explained(history, ROOMY)
             if isinstance(other, Unexplained):
-                return other._replace(page=f"{other.page}, {WHERE_ROOMY}")
+                return other._replace(page=f"{other.page}, {WHERE_ROOMY}{'' if self.has_room else CAPACITY}")
         return self.departed_before(history, result, whys) or self.with_perhaps(ordered, result, found)
 
     def is_by_room(self, result: Result) -> bool:

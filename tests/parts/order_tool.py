@@ -1195,7 +1195,7 @@ NOT_BESIDE = [
 # Small writes that are torn: for want of room in fdref's pipes, too, which is not what is wrong.
 TORN_SMALL = f"{THREE}12 13 p0 write 1 63*100 = 100\n20 40 p0 write 1 61*512 = 512\n20 40 p1 write 1 62*512 = 512\n"
 TORN_SMALL += f"50 51 p2 read 0 400 = x{'63' * 100}{'61' * 300}\n52 53 p2 read 0 512 = 62*512\n"
-NOT_BY_ROOM = f"page of write: at most PIPE_BUF bytes are not interleaved; page of read, {WHERE_ROOMY}"
+NOT_BY_ROOM = f"page of write: at most PIPE_BUF bytes are not interleaved; page of read, {WHERE_ROOMY}{HINT}"
 
 
 def part_cases(program: str) -> Iterator[Case]:
