@@ -754,7 +754,7 @@ struct forking {
 static struct forking begin_forking(void)
 {
     struct forking it = {__atomic_add_fetch(&shared->forks, 1, __ATOMIC_SEQ_CST), native_number, 0, 0};
-    it.own = (pid_t)system_syscall(SYS_getpid);
+    it.own = system_getpid();
     it.parent = (pid_t)system_syscall(SYS_getppid);
     return it;
 }
@@ -763,7 +763,7 @@ static struct forking begin_forking(void)
    have the same number. */
 static int is_forked(const struct forking *it, pid_t made)
 {
-    pid_t own = (pid_t)system_syscall(SYS_getpid), parent = (pid_t)system_syscall(SYS_getppid);
+    pid_t own = system_getpid(), parent = (pid_t)system_syscall(SYS_getppid);
     return own != it->own || (made == 0 && (own == 1 || parent != it->parent));
 }
 
@@ -795,7 +795,7 @@ static int64_t fork_asked(pid_t (*next)(void))
     if (is_child)
         forget_threads();
     process = is_child ? child : process;
-    own_pid = getpid();
+    own_pid = system_getpid();
     errno = error;
     return made;
 }
@@ -829,7 +829,7 @@ static void compare_forked(const struct forking *it, pid_t one, pid_t other)
 /* Compares natively what a fork has told with what the kernel tells. */
 static void check_told(const struct forking *it, pid_t made, int is_child)
 {
-    pid_t own = (pid_t)system_syscall(SYS_getpid);
+    pid_t own = system_getpid();
     if (is_child && made != 0 && is_watching())
         note_past('!', (uint64_t)log_length(), it->number, "wrong", "fork", "has not told the child that it is one");
     if (!is_child && made == 0)
@@ -841,7 +841,7 @@ static void check_told(const struct forking *it, pid_t made, int is_child)
 /* This process is the child of a native fork. */
 static void begin_child(uint32_t number)
 {
-    own_pid = getpid();
+    own_pid = system_getpid();
     native_number = number;
     say_exit(own_pid, -1);
     forget_threads();
@@ -1087,7 +1087,7 @@ static int is_no_child(const struct waiting *it, pid_t child)
 {
     siginfo_t ended;
     pid_t gone;
-    if (child == (pid_t)system_syscall(SYS_getpid))
+    if (child == system_getpid())
         return 1;
     if (!it->is_one || it->runs != runs || is_heard_elsewhere())
         return 0;

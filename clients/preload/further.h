@@ -199,7 +199,7 @@ int setrlimit64(resource_kind resource, const struct rlimit64 *to)
     int name(pid_t pid, resource_kind resource, const struct limits *to, struct limits *was) \
     { \
         static __typeof__(&name) next; \
-        int is_own = pid == 0 || pid == getpid(), done; \
+        int is_own = pid == 0 || pid == system_getpid(), done; \
         prepare(); \
         if (is_own && is_limit_of_numbers(resource) && to \
             && keep_numbers(to->rlim_cur == NUMBERS && to->rlim_max >= NUMBERS) < 0) \

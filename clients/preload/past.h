@@ -722,7 +722,7 @@ static char **handing(const char *what, char *const list[], char *const env[], c
 {
     size_t count = 0;
     char **with;
-    if (is_off() || how == ENDED || own_pid != getpid() || !is_same(env, "LD_PRELOAD")
+    if (is_off() || how == ENDED || own_pid != system_getpid() || !is_same(env, "LD_PRELOAD")
         || !is_same(env, how == ASKED ? "FDREF_SOCKET" : "FDREF_LOG") || (process && process->is_parked))
         return NULL;
     while (env[count])

@@ -61,6 +61,8 @@ static ssize_t system_write(int fd, const void *data, size_t count)
 }
 
 static int system_close(int fd) { return (int)system_syscall(SYS_close, (long)fd); }
+/* A library under test may have a getpid that calls `syscall`, which is this library's. */
+static pid_t system_getpid(void) { return system_syscall ? (pid_t)system_syscall(SYS_getpid) : getpid(); }
 static int system_fcntl(int fd, int command, int number)
 {
     return (int)system_syscall(RAW_FCNTL, (long)fd, (long)command, (long)number);

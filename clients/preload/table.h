@@ -48,7 +48,7 @@ static void lock(struct quiet before)
 /* Ends a call that comes where none can be made. */
 static void refuse_call(void)
 {
-    if (getpid() != own_pid) {
+    if (system_getpid() != own_pid) {
         is_kept = 1;
         end_with(NO_ANSWER, "a call comes from a process that fork did not make, as one by clone");
     }
@@ -569,7 +569,7 @@ static void note_handlers(void)
    comes with the end of the program. */
 static void end(void)
 {
-    if (own_pid != getpid())
+    if (own_pid != system_getpid())
         return;
     note_cut();
     tell_late_input();
@@ -588,7 +588,7 @@ static void end(void)
 /* Natively a process says with which status it exits. */
 static void tell_exit(int status, int is_at_once)
 {
-    if (how == NATIVE && own_pid == getpid())
+    if (how == NATIVE && own_pid == system_getpid())
         say_exit(own_pid, (status & 255) | (is_at_once ? AT_ONCE : 0) | (is_alone() ? BY_ITSELF : 0));
 }
 
@@ -661,7 +661,7 @@ static void begin_natively(void)
         if (is_open_in_kernel(fd))
             take_real(fd);
     if (getenv("FDREF_BEGUN")) {
-        native_number = (uint32_t)getpid() * NATIVE_MOST;
+        native_number = (uint32_t)system_getpid() * NATIVE_MOST;
         shared->next_number = native_number + 1;
     }
 }
@@ -776,7 +776,7 @@ static void put_table(char *to, size_t size, const char *what, char *const list[
 {
     struct given_words given = {0, 0, 0};
     int is_sure = is_watching() && is_alone() && !is_doubtful;
-    int used = snprintf(to, size, "%s%ld %ld %llu %d %d %d", handed_name, (long)getpid(),
+    int used = snprintf(to, size, "%s%ld %ld %llu %d %d %d", handed_name, (long)system_getpid(),
                         process ? (long)process->number : (long)native_number,
                         process ? (unsigned long long)process->place : 0, process ? process->socket : -1, shared_file,
                         is_sure);
@@ -836,7 +836,7 @@ static int take_over(char *at)
     struct given_words given;
     struct slot before[NUMBERS];
     unsigned long long inodes[NUMBERS];
-    if (!at || next_of(&at, 10) != getpid())
+    if (!at || next_of(&at, 10) != system_getpid())
         return 0;
     number = (long)next_of(&at, 10);
     place = (unsigned long long)next_of(&at, 10);
@@ -899,7 +899,7 @@ static void prepare(void)
     find_all();
     if (!environ)
         return;
-    own_pid = getpid();
+    own_pid = system_getpid();
     socket_named = getenv("FDREF_SOCKET");
     log_named = getenv("FDREF_LOG");
     past_named = getenv("FDREF_PAST");

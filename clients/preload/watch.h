@@ -504,7 +504,7 @@ static void let_pipes(struct keeping *it, const char *name, int64_t given, uint6
         if (system_sigaction(SIGPIPE, NULL, &now) == 0 && now.sa_sigaction == keep_pipe)
             system_sigaction(SIGPIPE, &it->action, NULL);
         for (int at = 0; at < it->came; at++)
-            system_syscall(SYS_tgkill, (long)getpid(), system_syscall(SYS_gettid), (long)SIGPIPE);
+            system_syscall(SYS_tgkill, (long)system_getpid(), system_syscall(SYS_gettid), (long)SIGPIPE);
     } else if (it->keeps == BLOCKS) {
         block_pipes(SIG_UNBLOCK);
     }
@@ -535,7 +535,7 @@ struct beyond {
 static size_t copied(char *to, const char *from, size_t size)
 {
     struct iovec here = {to, size}, there = {bytes_of(from), size};
-    long some = system_syscall(SYS_process_vm_readv, (long)getpid(), &here, 1L, &there, 1L, 0L);
+    long some = system_syscall(SYS_process_vm_readv, (long)system_getpid(), &here, 1L, &there, 1L, 0L);
     return some == (long)size ? size : 0;
 }
 
